@@ -189,7 +189,9 @@ class Flow:
             if key is not None:
                 put(state, key, one.other if one.size == 4 else None)
         elif one.rd and one.kind != BRANCH:
-            put(state, one.rd, self.facts.result(one) if one.kind == ALU else self.loaded(one, state))
+            # (behind memory that a function asks for on its stack the frame's places aren't told by sp)
+            known = None if one.takes_memory else self.facts.result(one) if one.kind == ALU else self.loaded(one, state)
+            put(state, one.rd, known)
 
     def loaded(self, one: Operation, state: State) -> Optional[Value]:
         if one.kind != LOAD or one.size != 4 or one.base is None:

@@ -13,7 +13,8 @@ MOST_FINDINGS = 400         # that are kept: each is a bug, and a list of so man
 # The kinds, by AddressSanitizer's names if it has one.
 HEAP, FREED, TWICE, NO_BLOCK, NULL = ("heap-buffer-overflow", "heap-use-after-free", "double-free", "invalid-free",
                                       "use-of-failed-allocation")
-GLOBAL, MEMBER, STACK, AFTER_RETURN = "global-buffer-overflow", "member-overflow", "stack-buffer-overflow", "stack-use-after-return"
+GLOBAL, MEMBER, STACK = "global-buffer-overflow", "member-overflow", "stack-buffer-overflow"
+AFTER_RETURN, AFTER_SCOPE = "stack-use-after-return", "stack-use-after-scope"
 DEPTH, REGISTER, RETURN, POINTER = "stack-overflow", "saved-register-overwritten", "return-address-overwritten", "invalid-pointer-stored"
 UNINITIALIZED, OVERLAP, LEAK = "use-of-uninitialized-value", "memcpy-param-overlap", "memory-leak"
 

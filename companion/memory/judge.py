@@ -7,7 +7,7 @@ from typing import Hashable, Iterator, List, NamedTuple, Optional
 from ..recording.instruction import NAMES
 from .facts import Facts
 from .findings import (
-    AFTER_RETURN, FREED as FREED_KIND, GLOBAL as GLOBAL_KIND, HEAP, MEMBER as MEMBER_KIND, NULL as NULL_KIND, OVERLAP, REGISTER, STACK,
+    AFTER_RETURN, AFTER_SCOPE, FREED as FREED_KIND, GLOBAL as GLOBAL_KIND, HEAP, MEMBER as MEMBER_KIND, NULL as NULL_KIND, OVERLAP, REGISTER, STACK,
     Finding, Findings)
 from .heap import Heap
 from .operation import ALU, AMO, BRANCH, FULL, JAL, JALR, LOAD, SP, STORE, Operation
@@ -38,6 +38,9 @@ class Access(NamedTuple):
     @property
     def verb(self) -> str:
         return f"{'store' if self.is_store else 'load'} of {self.size}"
+
+    def misses(self, thing: Thing) -> bool:
+        return not thing.holds(self.address, self.size) or thing.has_ended(self.hart, self.one.pc)
 
 
 class Recent:
@@ -77,7 +80,7 @@ class Judge:
     def load(self, access: Access, thing: Optional[Thing]) -> int:
         """Tells what is wrong. Gives the bits that are loaded and that nobody wrote."""
         address, size = access.address, access.size
-        if thing is not None and not thing.holds(address, size) and self.outside(access, thing):
+        if thing is not None and access.misses(thing) and self.outside(access, thing):
             return 0
         states = self.memory.states[address:address + size]
         if ENDED in states or FREED in states or BESIDE in states:
@@ -92,7 +95,7 @@ class Judge:
         """Tells what is wrong. The bytes are written then, if they are someone's."""
         address, size, memory = access.address, access.size, self.memory
         states = memory.states[address:address + size]
-        if thing is not None and not thing.holds(address, size) and self.outside(access, thing):
+        if thing is not None and access.misses(thing) and self.outside(access, thing):
             if UNDEFINED.issuperset(states):
                 memory.fill(address, address + size, GOOD)
             return
@@ -122,8 +125,8 @@ class Judge:
         if thing.kind == BLOCK and access.address < thing.begin and self.is_allocators(access.one.pc):
             self.findings.unknown[HEADERS] += 1
             return True
-        if thing.gone is None and thing.kind != NULL and not access.is_store:
-            if self.is_by_words(access, thing.low - 3 <= access.address < thing.high):
+        if not thing.has_ended(access.hart, access.one.pc) and thing.kind != NULL and not access.is_store:
+            if self.is_by_words(access, thing.begin - 3 <= access.address < thing.end):
                 self.findings.unknown["words past an end that a library's function read"] += 1
                 return False
         kind, text = self.said(access, thing)
@@ -142,6 +145,8 @@ class Judge:
                     f"{distance(access, thing.begin, thing.end)} {thing.name} ({thing.size} bytes)")
         if thing.gone:
             return AFTER_RETURN, f"{thing.name} has ended"
+        if thing.has_ended(access.hart, access.one.pc):
+            return AFTER_SCOPE, f"{thing.name}, whose block has ended"
         return STACK, f"{distance(access, thing.begin, thing.end)} {thing.name} ({thing.size} bytes)"
 
     def tell(self, access: Access, kind: str, text: str, thing: Optional[Thing]) -> None:
@@ -171,7 +176,7 @@ class Judge:
         """The place that loaded or made the pointer, and what it did, or (0, ""). None if another object can be meant, that the
         compiler reaches from this one's pointer."""
         hart, one = access.hart, access.one
-        is_static = thing is not None and thing.kind in (GLOBAL, FRAME, MEMBER) and not thing.gone
+        is_static = thing is not None and thing.kind in (GLOBAL, FRAME, MEMBER) and not thing.has_ended(hart, one.pc)
         if not is_static or thing is None:
             found = self.source(access, FULL)
             return found if found and not self.program.is_library(found[0]) else (0, "")

@@ -87,5 +87,14 @@ class Operation:
         return self.kind == JALR and self.rd == 0 and self.rs1 in LINKS
 
     @property
+    def takes_memory(self) -> bool:
+        """Whether a size that isn't constant is taken from sp."""
+        return self.name == "sub" and self.rd == self.rs1 == SP
+
+    @property
+    def is_jump(self) -> bool:
+        return self.kind in (BRANCH, JAL, JALR)
+
+    @property
     def is_call(self) -> bool:
         return self.kind in (JAL, JALR) and self.rd in LINKS

@@ -28,11 +28,12 @@ class Inner(NamedTuple):
 
 class Place(NamedTuple):
     """A place of the frame that a pointer is made to: from `low` (None: sp) to `high` from there it may lead. The variable begins
-    at `begin`, as one may end there whose end is meant."""
+    at `begin`, as one may end there whose end is meant. `scope`: the addresses of its block, if its function continues behind it."""
     low: Optional[int]
     high: int
     name: str
     begin: int = 0
+    scope: Optional[tuple[int, int]] = None
 
 
 class Parts:
@@ -187,10 +188,16 @@ class Parts:
         before = [each for each in listed if begins_here and each.end == offset]
         chosen = inside or [each for each in listed if each.end == offset or 0 < each.offset - offset <= NEAR]
         if chosen:
-            return place_of(chosen, before, offset)
+            return place_of(chosen, before, offset)._replace(scope=self.scope_of(pc, chosen))
         above = [at for at in self.facts.slots.get(first, {}) if at > offset]
         # (behind what a function with any number of arguments got in registers come others)
         return Place(None, min(above) - offset, "") if above and offset < 0 else None
+
+    def scope_of(self, pc: int, chosen: list[Local]) -> Optional[tuple[int, int]]:
+        """The block of a variable. Of optimized code it isn't known, since instructions leave their blocks, or are of two."""
+        function, one = self.program.function_at(pc), chosen[0]
+        is_inner = len(chosen) == 1 and (one.high - one.low) < function.end - function.first and one.low <= pc < one.high
+        return (one.low, one.high) if is_inner and self.program.is_plain(function.first) else None
 
     def indexed_local(self, one: Operation, base: Value) -> Optional[Limit]:
         """The limit of an access by a place of the frame and an index."""

@@ -6,7 +6,8 @@ import re
 from functools import cached_property
 from typing import Iterator, NamedTuple, Optional
 
-from ..recording.dwarf import BLOCK, FRAME_BASE, FUNCTION, HIGH, INLINED, LOCATION, LOW, PARAMETER, VARIABLE, Dwarf, Entry, signed
+from ..recording.dwarf import (
+    BLOCK, FRAME_BASE, FUNCTION, HIGH, INLINED, LOCATION, LONGEST_NAME, LOW, PARAMETER, VARIABLE, Dwarf, Entry, signed)
 from ..recording.elf import FUNCTION as FUNCTION_SYMBOL
 from ..recording.elf import Elf, Symbol
 from ..recording.types import Types
@@ -14,6 +15,7 @@ from ..recording.types import Types
 LIBRARY = re.compile(r"picolibc|newlib|/libc/|libgcc|tinystdio|musl|glibc")      # in the path of a library's source
 # Functions whose parameters aren't those of the source.
 CLONE = re.compile(r"\.(isra|constprop|part|cold)")
+OPTIMIZATION = re.compile(r" -O(\S*)")             # in what tells GCC and its options; the last one counts
 CFA, FBREG, ADDRESS = b"\x9c", 0x91, 3          # DWARF's operations for a frame's begin, a place in it, and an address
 LONGEST_FUNCTION = 65536    # bytes that are analysed
 DEEPEST_BLOCK = 60          # blocks in blocks
@@ -99,6 +101,13 @@ class Program:
         has any."""
         entry = self.entries.get(self.function_at(pc).first)
         return bool(LIBRARY.search(f"{entry.unit.folder}/{entry.unit.file}")) if entry else bool(self.entries)
+
+    def is_plain(self, first: int) -> bool:
+        """Whether GCC compiled a function statement by statement, without optimization."""
+        entry = self.entries.get(first)
+        producer = entry.unit.producer if entry else ""
+        levels = OPTIMIZATION.findall(producer)
+        return producer.startswith("GNU C") and len(producer) < LONGEST_NAME and levels[-1:] in ([], ["0"])
 
     def object_at(self, address: int) -> Optional[Object]:
         at = bisect.bisect_right(self.object_begins, address) - 1

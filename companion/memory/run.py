@@ -6,7 +6,8 @@ from typing import Dict, Iterable, Iterator, List, Mapping, Optional, Sequence, 
 from ..recording.chunks import chunks
 from ..recording.elf import Elf
 from ..recording.log import Log
-from .actions import FAULT, Actions, Checks
+from .actions import FAULT, Actions
+from .checks import Checks
 from .facts import Facts
 from .findings import Findings
 from .heap import STORES, Heap, Hook, hooks_of
@@ -67,11 +68,11 @@ class Run:
                 found = self.passed_over(hart, pairs)
                 if found is None:
                     return
-                if actions[found[1]](found[0]):
+                if actions.now()[found[1]](found[0]):
                     continue
+            table = actions.now()
             for row, key in pairs:
-                if actions[key](row):
-                    self.results[hart.number] = self.stored[hart.number] = None
+                if table[key](row):
                     break
             else:
                 return
@@ -98,7 +99,7 @@ class Run:
         assert hart.awaited
         if hart.returns and hart.returns[-1] == int(hart.awaited.back, 16):
             hart.returns.pop()
-        self.heap.returned(hart, self.results.get(hart.number), self.stored.get(hart.number))
+        self.heap.returned(hart, self.results.pop(hart.number, None), self.stored.pop(hart.number, None))
 
     def of_all(self, rows: List[bytes], has_fault: bool) -> None:
         by_text = {b"%d " % hart.number if hart.number < 10 else b"%d" % hart.number: (hart, actions, len(str(hart.number)) + 1)
@@ -112,8 +113,7 @@ class Run:
                     self.inside(hart, row)
                     continue
                 self.returned(hart)
-            if actions[key](row):
-                self.results[hart.number] = self.stored[hart.number] = None
+            (actions.careful if hart.undefined else actions)[key](row)
 
 
 def run_of(log: Log, elf_name: str, named: Elf, takes: Sequence[str] = (), gives: Sequence[str] = ()) -> Run:

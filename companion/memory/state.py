@@ -2,7 +2,7 @@
 from __future__ import annotations
 
 from dataclasses import dataclass
-from typing import Dict, List, NamedTuple, Optional, Tuple, Union
+from typing import Callable, Dict, List, NamedTuple, Optional, Tuple, Union
 
 from .operation import A0, CALLER_SAVED, FULL
 
@@ -11,8 +11,15 @@ GOOD, UNWRITTEN, SAVED, BESIDE, FREED, ENDED, PARTLY, COPIED = range(8)
 UNDEFINED = frozenset((UNWRITTEN, PARTLY, COPIED))
 FORBIDDEN = frozenset((SAVED, BESIDE, FREED, ENDED))
 BLOCK, GLOBAL, MEMBER, FRAME, NULL, NUMBER = "block", "global", "member", "frame", "null", "number"
+ZEROS = {size: bytes(size) for size in (1, 2, 4, 8)}      # states of bytes of which all are GOOD
 MOST_CALLERS = 12           # places of a call stack that are kept of an event
 DEEPEST_SEARCH = 200        # calls that a return may leave at once, as longjmp does
+
+Act = Callable[[bytes], Optional[bool]]         # of a row; True if what looks at the next one has changed
+
+
+def nothing(_: bytes) -> None:
+    """Of an instruction that changes nothing that is kept."""
 
 
 @dataclass(frozen=True)
@@ -48,6 +55,33 @@ class Thing:
     def holds(self, address: int, size: int) -> bool:
         return self.low <= address and address + size <= self.high
 
+    def has_ended(self, _hart: Hart, _pc: int) -> bool:
+        """Whether nothing is left of it when a place is executed."""
+        return self.gone is not None
+
+
+class Scoped(Thing):
+    """A variable of a block that its function can leave: each access asks for it, since none is in low..high.
+
+    scope    the addresses of the block, and function: those of the function
+    hart     whose frame it is in; depth: how many calls were under way there"""
+    __slots__ = "scope", "function", "hart", "depth"
+
+    def __init__(self, thing: Thing, scope: Tuple[int, int], function: Tuple[int, int], hart: Hart) -> None:
+        super().__init__(FULL, 0, FRAME, thing.name)
+        self.begin, self.end = thing.begin, thing.end
+        self.scope, self.function, self.hart, self.depth = scope, function, hart.number, len(hart.returns)
+
+    def holds(self, address: int, size: int) -> bool:
+        return self.gone is None and self.begin <= address and address + size <= self.end
+
+    def has_ended(self, hart: Hart, pc: int) -> bool:
+        """(Where another hart's function is isn't known, nor behind calls that weren't followed: then nothing is said.)"""
+        if self.gone is not None or hart.number != self.hart:
+            return self.gone is not None
+        at = pc if len(hart.returns) == self.depth else hart.returns[self.depth] - 4 if len(hart.returns) > self.depth else 0
+        return self.function[0] <= at < self.function[1] and not self.scope[0] <= at < self.scope[1]
+
 
 DIFFERENCE = Thing(0, FULL + 1, NUMBER)
 
@@ -65,6 +99,15 @@ class Undefined(NamedTuple):
     origin: Optional[Origin]
 
 
+class Asked:
+    """Memory that a function asks for on its stack while it runs: sp behind it, its bytes, and the thing once there is a pointer."""
+    __slots__ = "sp", "size", "thing"
+
+    def __init__(self, sp: int, size: int) -> None:
+        self.sp, self.size = sp, size
+        self.thing: Optional[Thing] = None
+
+
 class Hart:
     """tags      of each register what its value points into, or None
     rows      of each register the row that wrote it last, or its value, or None
@@ -74,6 +117,7 @@ class Hart:
     places    things of frames to which pointers were made, outermost first
     sp        the stack pointer, None if it isn't known; top, lowest: of its stack; limit: it may grow down to this for certain
     is_own    whether what is known of its stack is true (not after a change of stacks); is_away: it is on another one
+    asking    the row of the sum that becomes the size of memory on its stack; asked: that memory
     awaited   what an allocator's function that is under way will give"""
 
     def __init__(self, number: int, registers: Tuple[int, ...]) -> None:
@@ -89,6 +133,8 @@ class Hart:
         self.lowest_at: Optional[Event] = None
         self.limit = 0
         self.is_own, self.has_met, self.is_away = True, False, False
+        self.asking = b""
+        self.asked: Optional[Asked] = None
         self.awaited: Optional[Awaited] = None
 
     def value(self, register: int) -> Optional[int]:

@@ -2,13 +2,15 @@
 from __future__ import annotations
 
 import re
-from typing import Optional, Tuple
+from typing import Callable, Optional, Tuple
 
 from .findings import UNINITIALIZED, Finding
+from .heap import Hook
 from .judge import Judge
-from .operation import FULL, Operation
-from .state import COPIED, PARTLY, Hart, Origin, Undefined
+from .operation import A0, A1, A2, A7, ALU, AMO, BRANCH, ECALL, FULL, JALR, LOAD, STORE, Operation
+from .state import COPIED, PARTLY, Act, Hart, Origin, Undefined
 from .value import FRAME
+from ..recording.log import READ_CALL, WRITE_CALL
 
 # Functions of a library whose branches look at bytes that don't count.
 LOOKS = re.compile(r"_*(str|mem|stpcpy|stpncpy|rawmem)[a-z]*(_.*)?")
@@ -65,6 +67,43 @@ class UndefinedBits:
     def __init__(self, judge: Judge) -> None:
         self.judge, self.program, self.memory = judge, judge.program, judge.memory
 
+    def around(self, hart: Hart, one: Operation, act: Act, hook: Optional[Hook]) -> Act:
+        """A row's action while a register has such bits: what depends on them before it, and where they are after it."""
+        before = self.before(hart, one, hook)
+        is_store, source = one.kind == STORE, one.rs2
+
+        def both(row: bytes) -> bool:
+            before(row)
+            is_over = act(row)
+            if is_store and source in hart.undefined:
+                self.stored(hart, one, int(row[-17:-9], 16))
+            return bool(is_over) or not hart.undefined
+        return both
+
+    def before(self, hart: Hart, one: Operation, hook: Optional[Hook]) -> Callable[[bytes], None]:
+        """What a row uses; the register that it writes has none any more, unless the row brings some."""
+        if hook is not None:
+            given, name = A0 + hook.argument, hook.name
+            return lambda row: self.used(hart, one, row, (given,), f"what {name} is given depends")
+        if one.kind == ALU:
+            return lambda row: self.computed(hart, one)
+        if one.kind == BRANCH:
+            return lambda row: self.branched(hart, one, row)
+        if one.kind == ECALL:
+            return lambda row: self.called(hart, one, row)
+        registers = (one.rs1,) if one.kind in (LOAD, STORE, AMO, JALR) else ()
+        what = "a jump depends" if one.kind == JALR else "an address depends"
+
+        def use(row: bytes) -> None:
+            self.used(hart, one, row, registers, what)
+            hart.undefined.pop(one.rd, None)
+        return use
+
+    def called(self, hart: Hart, one: Operation, row: bytes) -> None:
+        used = (A7, A0, A1, A2) if hart.value(A7) in (READ_CALL, WRITE_CALL) else (A7, A0)
+        self.used(hart, one, row, used, "a system call depends")
+        hart.undefined.pop(A0, None)
+
     def computed(self, hart: Hart, one: Operation) -> None:
         """An instruction without an access has run."""
         x, y = hart.undefined.get(one.rs1), hart.undefined.get(one.rs2) if one.rs2 else None
@@ -75,13 +114,14 @@ class UndefinedBits:
         else:
             hart.undefined.pop(one.rd, None)
 
-    def loaded(self, hart: Hart, one: Operation, address: int, bits: int) -> None:
+    def loaded(self, hart: Hart, one: Operation, address: int, bits: int) -> bool:
         """Bits that nobody wrote are in a register."""
         width = 8 * one.size
         if one.rd:
             if width < 32 and not one.unsigned and bits >> width - 1 & 1:
                 bits |= FULL & -1 << width
             hart.undefined[one.rd] = Undefined(bits, self.origin(hart, one.pc, address))
+        return True
 
     def stored(self, hart: Hart, one: Operation, address: int) -> None:
         """They are in memory, which is no error."""
@@ -95,6 +135,8 @@ class UndefinedBits:
 
     def branched(self, hart: Hart, one: Operation, row: bytes) -> None:
         """A branch depends on them, unless other bits determine it, or a library's function looks at bytes that don't count."""
+        if one.rs1 not in hart.undefined and one.rs2 not in hart.undefined:
+            return
         if one.name in ("beq", "bne"):
             x, y = hart.value(one.rs1), hart.value(one.rs2)
             bits = sum_of_bits(hart, one)

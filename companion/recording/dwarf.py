@@ -12,7 +12,7 @@ from .elf import Elf
 ARRAY, CLASS, ENUM, PARAMETER, BLOCK, MEMBER, POINTER, UNIT, STRUCT = 1, 2, 4, 5, 0xb, 0xd, 0xf, 0x11, 0x13
 ROUTINE, UNION, INLINED, SUBRANGE, BASE, FUNCTION, VARIABLE = 0x15, 0x17, 0x1d, 0x21, 0x24, 0x2e, 0x34
 LOCATION, NAME, BYTE_SIZE, LOW, HIGH, COMP_DIR, UPPER, ORIGIN = 2, 3, 0xb, 0x11, 0x12, 0x1b, 0x2f, 0x31
-COUNT, OFFSET, FRAME_BASE, SPECIFICATION, TYPE, BITS = 0x37, 0x38, 0x40, 0x47, 0x49, 0x0d
+COUNT, OFFSET, FRAME_BASE, SPECIFICATION, TYPE, BITS, PRODUCER = 0x37, 0x38, 0x40, 0x47, 0x49, 0x0d, 0x25
 KEPT = {LOCATION, NAME, BYTE_SIZE, LOW, HIGH, COMP_DIR, UPPER, ORIGIN, COUNT, OFFSET, FRAME_BASE, SPECIFICATION, TYPE, BITS}
 # The bytes of each form of a fixed size.
 FIXED = {0x01: 4, 0x05: 2, 0x06: 4, 0x07: 8, 0x0b: 1, 0x0c: 1, 0x0e: 4, 0x10: 4, 0x11: 1, 0x12: 2, 0x13: 4, 0x14: 8, 0x17: 4,
@@ -29,9 +29,10 @@ Abbreviation = Tuple[int, bool, List[Tuple[int, int, int]]]      # a tag, whethe
 
 
 class Unit(NamedTuple):
-    """A source: the folder and the name of its file."""
+    """A source: the folder and the name of its file, and the compiler with its options."""
     folder: str
     file: str
+    producer: str = ""
 
 
 class Entry:
@@ -92,10 +93,10 @@ class Dwarf:
             told: dict[int, Told] = {}
             for name, form, constant in names:
                 value, at = self.value(info, at, form, constant, begin)
-                if name in KEPT:
+                if name in KEPT or name == PRODUCER and tag == UNIT:
                     told[name] = value
             if tag == UNIT:
-                unit = Unit(str(told.get(COMP_DIR, "")), str(told.get(NAME, "")))
+                unit = Unit(str(told.get(COMP_DIR, "")), str(told.get(NAME, "")), str(told.get(PRODUCER, "")))
             entry = self.entries[place] = Entry(place, tag, told, unit)
             if len(self.entries) > MOST_ENTRIES:
                 raise ValueError(MOST_ENTRIES)

@@ -31,7 +31,7 @@ def json_text(table: Table) -> str:
 def group_answer(group: Group) -> dict[str, Any]:
     return {"line": group.bucket.line(), **group.bucket._asdict(), "count": group.count, "salvaged": group.salvaged,
             "harts": sorted(group.harts), "first": file_answer(group.first), "last": file_answer(group.last),
-            "example": group.example.name, "elf": group.elf, "suspect": group.suspect, "command": group.command()}
+            "example": group.example.name, "elf": group.elf, "memory_error": group.error, "suspect": group.suspect, "command": group.command()}
 
 
 def file_answer(file: File) -> dict[str, str]:
@@ -45,7 +45,7 @@ def junit_text(table: Table) -> str:
     for group in groups:
         lines.append(f"<testcase classname={quoted(group.bucket.reason)} name={quoted(group.bucket.line())}>")
         if group.bucket.reason not in EXITS:
-            said = "\n".join(filter(None, [group.suspect, group.command()]))
+            said = "\n".join(filter(None, [group.error, group.suspect, group.command()]))
             lines.append(f"<failure message={quoted(counted(group.count, 'log'))}>{cleaned(said)}</failure>")
         lines.append("</testcase>")
     for why, files in unread:

@@ -18,7 +18,8 @@ class Group:
 
     example  of these, one that is whole if there is any; elf: its program
     harts    how many a log has
-    suspect  in words, or nothing"""
+    error    the example's first memory error, in words, or nothing
+    suspect  the same of the best suspect"""
     bucket: Bucket
     first: File
     last: File
@@ -28,6 +29,7 @@ class Group:
     count: int = 0
     salvaged: int = 0
     harts: set[int] = field(default_factory=set)
+    error: str = ""
     suspect: str = ""
 
     def command(self) -> str:

@@ -26,8 +26,8 @@ HELP = f"""Sorts many logs by the cause of their end.
     zelkuma triage DIR.. --elfs DIR [--json FILE] [--junit FILE] [--html FILE]
 
 It reads all logs below each DIR, on all processors. Of each cause it prints the line of `bucket`, how many logs have it, the
-first and the last by their files' dates, how many harts they have, the best suspect of `why`, and the command that says more
-of one of them.
+first and the last by their files' dates, how many harts they have, the first memory error, the best suspect of `why`, and the
+command that says more of one of them.
 
 --elfs   where the programs are: each is found by its SHA-256, which a log has. What was found is remembered in
          ~/.cache/zelkuma/elfs.json ($XDG_CACHE_HOME), which can be deleted
@@ -76,6 +76,7 @@ def with_suspects(table: Table) -> None:
     for group in groups:
         answer = found[group.example.name]
         group.suspect = answer.words if answer.state == READ else f"none: {answer.words}"
+        group.error = answer.error
 
 
 def lines_of(group: Group) -> list[str]:
@@ -83,6 +84,7 @@ def lines_of(group: Group) -> list[str]:
     harts = ", ".join(map(str, sorted(group.harts)))
     lines = [f"harts {harts}; {day(first)} {clean(first.name)}" + (f" to {day(last)} {clean(last.name)}" if first != last else "")]
     lines += [f"{counted(group.salvaged, 'log')} of them salvaged"] if group.salvaged else []
+    lines += [f"memory error: {group.error}"] if group.error else []
     lines += [f"suspect: {group.suspect}"] if group.suspect else []
     return lines + [clean(group.command())]
 

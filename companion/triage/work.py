@@ -16,6 +16,7 @@ from ..recording.elf import Elf
 from ..recording.places import Places
 from ..recording.recent import LogFile, open_log
 from ..why.analysis import analysed
+from ..why.memory_part import MemoryErrors
 from ..why.suspect import DID
 from .bucket import Bucket, bucket_of
 
@@ -38,12 +39,14 @@ class Task(NamedTuple):
 class Answer(NamedTuple):
     """state   READ, SALVAGED or UNREAD
     words   why it isn't read, or the best suspect
+    error   the first memory error, in words, or nothing
     bucket  its fields, if the bucket was asked for
     harts   how many it has"""
     state: str
     words: str
     bucket: Bucket = Bucket("", "", "", "")
     harts: int = 0
+    error: str = ""
 
 
 class TooLong(BaseException):
@@ -112,12 +115,12 @@ class Work:
 
     def suspect(self, task: Task) -> Answer:
         with closing(analysed(task.log, task.elf)) as facts:
-            if not facts.shown:
-                return Answer(READ, "")
-            first = facts.shown[0]
-            source = facts.own_source(first.guilty)
-            place = facts.own_where(first.guilty)
-            return Answer(READ, f"{DID[first.kind]} {place}" + (f": {source}" if source else ""))
+            error, words = MemoryErrors(facts).first(), ""
+            if facts.shown:
+                first = facts.shown[0]
+                source = facts.own_source(first.guilty)
+                words = f"{DID[first.kind]} {facts.own_where(first.guilty)}" + (f": {source}" if source else "")
+            return Answer(READ, words, error=error)
 
 
 def within(seconds: float, work: Callable[[], T]) -> T:

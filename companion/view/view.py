@@ -24,6 +24,7 @@ from ..why.analysis import Analysis, analysed
 from ..why.facts import asked_byte
 from ..why.fault import fault_words
 from ..why.hang import hang_lines
+from ..why.memory_part import MemoryErrors
 from ..why.origins import advice
 from ..why.report import output_lines, unread
 from ..why.suspect import ALONE, DID, NEW_OWNER, Suspect
@@ -203,7 +204,7 @@ class View:
         return dict(
             start=self.page.point(crash.start), where=self.where(), notes=crash.notes + unread(crash) + crash.places.trouble(),
             fault=[self.fault.name, f"{self.fault.value:08x}"] if self.fault else None,
-            about=self.about(), words=self.words(), hang=self.hang(),
+            about=self.about(), words=self.words(), memory=MemoryErrors(crash).lines(), hang=self.hang(),
             suspects=[self.suspect(item) for item in self.suspects], noSuspect=self.no_suspect(),
             chainRows=len(history.cost) - len(history.decided), chainCut=history.cut,
             registers=[] if crash.asked else [f"{value:08x}" for value in final], registerNames=NAMES,

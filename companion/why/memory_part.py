@@ -22,11 +22,24 @@ class MemoryErrors:
         if not facts.asked and facts.log.memory <= LARGEST_MEMORY:
             self.answer = Answer(run_of(facts.log, facts.elf.name, facts.named), facts.places, [], [])
 
+    def lines(self) -> list[str]:
+        """The first findings, with their callers."""
+        if self.answer is None:
+            return []
+        found = self.answer.findings
+        lines = [line[2:] for at, each in enumerate(found[:TOLD], 1) for line in self.answer.finding(at, each)]
+        return lines + [f".. and {len(found) - TOLD} more"] * (len(found) > TOLD)
+
+    def first(self) -> str:
+        """The first finding in a line with its place, or nothing."""
+        if self.answer is None or not self.answer.findings:
+            return ""
+        found = self.answer.findings[0]
+        return f"{found.kind}: {found.text}, in {self.answer.chain(found.when.pcs)}"
+
     def parts(self) -> list[Part]:
-        found = self.answer.findings if self.answer else []
-        lines = [line[2:] for at, each in enumerate(found[:TOLD], 1) for line in self.answer.finding(at, each)] if self.answer else []
-        more = [f".. and {len(found) - TOLD} more"] if len(found) > TOLD else []
-        return [Part(HEAD, lines + more)] if lines else []
+        lines = self.lines()
+        return [Part(HEAD, lines)] if lines else []
 
     def entries(self) -> list[dict[str, Any]]:
         return [self.answer.finding_of(each) for each in self.answer.findings[:LONGEST]] if self.answer else []

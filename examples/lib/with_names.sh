@@ -7,7 +7,7 @@ compile_with_names() { # OBJECT SOURCE [OPTION..]
         -fno-tree-loop-distribute-patterns "-ffile-prefix-map=$PWD=." "-Wa,--debug-prefix-map,$PWD=." -I examples/lib -c -o "$1" "${@:2}"
 }
 
-# Links the sources with the start and the system calls of the examples.
+# Links the sources with the start and the system calls of the examples. OPTIONS can be more options of the compiler.
 build_with_names() ( # ELF SOURCE..
     set -e
     elf=$1 objects=()
@@ -16,7 +16,8 @@ build_with_names() ( # ELF SOURCE..
     trap 'rm -rf "$work"' EXIT
     for source in examples/lib/start.S examples/lib/machine.c "$@"; do
         objects+=("$work/$(basename "${source%.*}").o")
-        compile_with_names "${objects[-1]}" "$source"
+        # shellcheck disable=SC2086
+        compile_with_names "${objects[-1]}" "$source" ${OPTIONS-}
     done
     riscv64-unknown-elf-gcc -march=rv32ima -mabi=ilp32 -nostdlib -static -T examples/lib/program.ld -z max-page-size=4096 \
         -Wl,--build-id=none -Wl,--fatal-warnings -o "$elf" "${objects[@]}"

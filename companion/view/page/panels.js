@@ -64,13 +64,14 @@ function showEnd() {
   const go = link(`Hart ${start.hart}, count ${commas(start.count)}`, () => choose(start.hart, start.count));
   go.id = "go-start";
   box.append(element("h2", "Calls", "inner"), calls, go);
-  if (D.hang.length) showHang();
+  if (D.hang.length) showLines("hang", D.hang);
+  if (D.memory.length) showLines("memory", D.memory);
 }
 
-/* What hangs, since when, and what would have ended it: one line each, as `why` tells them. */
-function showHang() {
-  byId("hang-card").hidden = false;
-  byId("hang").textContent = D.hang.join("\n");
+/* A card of lines as `why` tells them: what hangs, since when, and what would have ended it; errors of memory. */
+function showLines(name, lines) {
+  byId(`${name}-card`).hidden = false;
+  byId(name).textContent = lines.join("\n");
 }
 
 function endList() {

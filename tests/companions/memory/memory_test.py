@@ -54,7 +54,11 @@ CASES = (
     ("freed_nowhere", findings.NO_BLOCK, "87654320 is given back: memory ends at 00100000", "work"),
     ("unwritten_size", findings.UNINITIALIZED, "what malloc is given depends on bytes that nobody wrote, of size of unwritten_size",
      "malloc, called in unwritten_size"),
+    ("asked", findings.STACK, "store of 1, 0 bytes after an alloca or array of asked (13 bytes)", "set"),
+    ("array_of_length", findings.STACK, "store of 1, 0 bytes after an alloca or array of array_of_length (28 bytes)", "set"),
+    ("after_scope", findings.AFTER_SCOPE, "store of 1, text of after_scope, whose block has ended", "set"),
 )
+PLAIN = "after_scope",                          # cases of the program that is compiled without optimization
 NUMBERS = {name: at for at, (name, *_) in enumerate(CASES)}
 programs = {}
 
@@ -93,14 +97,18 @@ class Oracle:
 
 
 class MemoryTest(case.Case):
-    built = ""          # the program of all cases; none without a compiler
+    built = plain = ""  # the program of all cases, with optimization and without; none without a compiler
 
     @classmethod
     def setUpClass(cls):
         if shutil.which("riscv64-unknown-elf-gcc"):
-            cls.built = common.path("memory.elf")
-            subprocess.run(["bash", "-c", '. examples/lib/with_names.sh && build_with_names "$@"', "-", cls.built, *SOURCES],
-                           cwd=common.TOP, check=True)
+            cls.built, cls.plain = common.path("memory.elf"), common.path("plain.elf")
+            for elf, options in ((cls.built, ""), (cls.plain, "-O0")):
+                subprocess.run(["bash", "-c", '. examples/lib/with_names.sh && build_with_names "$@"', "-", elf, *SOURCES],
+                               cwd=common.TOP, check=True, env=dict(os.environ, OPTIONS=options))
+
+    def elf_of(self, name):
+        return self.plain if name in PLAIN else self.built
 
     def log(self, name, which, hart=0):
         """The recording of a case: `which` is b or g."""
@@ -110,7 +118,7 @@ class MemoryTest(case.Case):
         if key not in case.logs:
             given = common.written(common.path("given"), chr(ord("a") + NUMBERS[name]) + which + str(hart))
             harts = ["--harts", "2"] if hart or name == "lends" else []
-            case.logs[key] = common.record("-".join(map(str, key)), self.built, "--seed", "3", "--input", given, *harts)
+            case.logs[key] = common.record("-".join(map(str, key)), self.elf_of(name), "--seed", "3", "--input", given, *harts)
         return case.logs[key]
 
     def found(self, log, elf, *options):
@@ -136,7 +144,7 @@ class MemoryTest(case.Case):
         self.needs_addr2line()
         for name, kind, text, function in CASES:
             with self.subTest(name):
-                said = self.lines_of(self.log(name, "b"), self.built)
+                said = self.lines_of(self.log(name, "b"), self.elf_of(name))
                 told = re.search(r"(?:1\. |  )%s: (.*)\n(?:     it is in (.*))?" % kind, said)
                 self.assertIsNotNone(told, said)
                 self.assertIn(text, told[1])
@@ -148,7 +156,7 @@ class MemoryTest(case.Case):
                 if hart and name == "lends":
                     continue
                 with self.subTest(name, hart=hart):
-                    self.assertEqual(self.run_of(self.log(name, "g", hart), self.built).findings.in_order(), [])
+                    self.assertEqual(self.run_of(self.log(name, "g", hart), self.elf_of(name)).findings.in_order(), [])
         self.assertNotIn("memory-leak", self.lines_of(self.log("leak", "g"), self.built))
 
     def test_another_hart_is_told_the_same(self):
@@ -156,7 +164,7 @@ class MemoryTest(case.Case):
             if name in ("leak", "lends"):       # (no finding; of two harts by itself)
                 continue
             with self.subTest(name):
-                found = self.run_of(self.log(name, "b", 1), self.built).findings.in_order()
+                found = self.run_of(self.log(name, "b", 1), self.elf_of(name)).findings.in_order()
                 self.assertEqual((found[0].kind, found[0].when.hart), (kind, 1))
                 self.assertIn(text, found[0].text)
 
@@ -168,7 +176,7 @@ class MemoryTest(case.Case):
 
     def test_of_a_lost_beginning_nothing_is_told_that_needs_it(self):
         """Each end of a good recording is silent, too."""
-        for name in ("heap_after", "freed", "resized", "stack_after", "unwritten_copied", "depth"):
+        for name in ("heap_after", "freed", "resized", "stack_after", "unwritten_copied", "depth", "asked"):
             log = self.record_in_intervals(name)
             with closing(open_log(log)) as source:
                 for end in (source.end(rows) for rows in (20, 60, 200)):

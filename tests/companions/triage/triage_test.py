@@ -121,6 +121,18 @@ class TriageTest(case.Case):
         self.assertTrue(first["suspect"].startswith(
             "%s %s %s:%d" % (told["did"], *(told["guilty"]["place"][key] for key in ("function", "file", "line")))), first)
 
+    def test_the_first_memory_error(self):
+        """It is the one that `memory` tells first, and stands before the suspect."""
+        fleet, name = Fleet("errors"), "libc_end_of_block"
+        fleet.add("bad.log", common.crash(name)[0])
+        answer, said = fleet.answer() if fleet.elf(name) else ({}, "")
+        found = json.loads(self.says("memory", fleet.names[0], os.path.join(CRASHES, name + ".elf"), "--json"))["findings"][0]
+        place = found["calls"][0]
+        told = f"{found['kind']}: {found['text']}, in {place['function']} {place['file']}:{place['line']}"
+        self.assertTrue(answer["buckets"][0]["memory_error"].startswith(told), answer)
+        self.assertLess(said.index("  memory error: " + told), said.index("  suspect: "))
+        self.assertEqual({one["memory_error"] for one in self.answer["buckets"] if one["function"] != "-" and FREED in one["place"]}, {""})
+
     def test_the_text(self):
         lines = self.said.split("\n")
         self.assertEqual(lines[0], "8 logs: 3 causes, 1 salvaged, 4 not read, 3 other files")

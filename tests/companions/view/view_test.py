@@ -82,6 +82,13 @@ class ViewTest(case.Case):
         self.assertIn("finish libc_line.c:65", places)
         self.assertEqual(places, [item["where"] for item in answer["suspects"]][:len(places)])
 
+    def test_memory_errors_are_those_of_the_text(self):
+        log, elf = self.crash("libc_end_of_block")
+        lines = data_of(self.says("view", log, elf))["memory"]
+        self.assertEqual(lines[0], "1. heap-buffer-overflow: store of 1, 0 bytes after a block of 14 bytes")
+        self.assertIn("\n".join("  " + line for line in lines), self.says("why", log, elf))
+        self.assertEqual(data_of(self.says("view", *self.crash("null_route")))["memory"], [])
+
     def test_a_byte_of_the_output_shows_its_store(self):
         log, elf = self.crash("wrong_total")
         page = self.says("view", log, elf, "--output", "0:29")

@@ -298,11 +298,41 @@ NOINLINE static void unwritten_size(unsigned bad)
     free(malloc(size & 63));
 }
 
+NOINLINE static void asked(unsigned bad)
+{
+    sink = 13;
+    char *text = __builtin_alloca(sink);
+    set(text, 0, 1);
+    set(text, 12 + bad, 1);
+}
+
+NOINLINE static void array_of_length(unsigned bad)
+{
+    for (unsigned length = 1; length < 20; length++) {
+        unsigned words[length];
+        char *text = (char *)words;
+        set(text, 0, length);
+        set(text, 4 * length - (length != 7 || !bad), 1);
+    }
+}
+
+/* Of code without optimization alone it is known. */
+NOINLINE static void after_scope(unsigned bad)
+{
+    {
+        char text[8];
+        kept_place = bad ? text : letters;
+        set(text, 1, 1);
+        set(kept_place, 1, 1);
+    }
+    set(kept_place, 2, 1);
+}
+
 static void (*const cases[])(unsigned) = {
     heap_after, heap_before, heap_by_copy, freed, freed_twice, freed_inside, freed_global, failed, resized, aligned, global_after,
     member_after, block_member_after, stack_after, after_return, depth, over_return_address, no_pointer, unwritten_block,
     unwritten_local, unwritten_copied, unwritten_out, leak, overlapping, lends, freed_nowhere,
-    unwritten_size};
+    unwritten_size, asked, array_of_length, after_scope};
 
 static void work(int hart)
 {

@@ -1,0 +1,172 @@
+"""What loads, stores and atomics do to what pointers are for and to the state of bytes."""
+from __future__ import annotations
+
+from typing import Optional
+
+from .checks import Checks
+from .judge import Access
+from .operation import SP, Operation
+from .parts import Limit
+from .state import ENDED, GOOD, SAVED, ZEROS, Act, Hart, Thing, nothing, value_of
+from .sums import frame_thing
+from .value import ABSOLUTE
+from .value import FRAME as IN_FRAME
+
+SAVED_WORD = bytes((SAVED,)) * 4
+
+
+class Accesses:
+    def __init__(self, checks: Checks, hart: Hart) -> None:
+        self.checks, self.hart = checks, hart
+
+    def is_known_place(self, one: Operation) -> bool:
+        """Whether an access is to a constant address, or to a place of the frame by a constant: these are the program's own."""
+        base = one.base
+        if base is None or base.indexed:
+            return False
+        return base.to == ABSOLUTE or base.to == IN_FRAME and one.stack is not None and one.stack.to == IN_FRAME
+
+    def is_free(self, one: Operation) -> bool:
+        """Whether nothing is known of an access by a constant with an index."""
+        return one.base is not None and one.base.indexed and one.base.to in (ABSOLUTE, IN_FRAME)
+
+    def restores(self, one: Operation) -> bool:
+        """Whether a load takes back a register that was saved in the frame."""
+        slots = self.checks.facts.slots.get(self.checks.facts.program.function_at(one.pc).first, {})
+        return bool(one.base and one.base.to == IN_FRAME and one.rs1 == SP and slots.get(one.base.offset + one.imm) == one.rd)
+
+    def of_load(self, one: Operation) -> Act:
+        limit = self.checks.parts.limit(one)
+        if limit is not None:
+            self.checks.judge.limited.add(one.pc)
+            return self.load(one, limit)
+        if self.is_known_place(one) and one.base and (one.base.to == ABSOLUTE or self.restores(one)):
+            return self.plain_load(one)
+        return self.load(one, no_limit if self.is_free(one) or self.is_known_place(one) else None)
+
+    def plain_load(self, one: Operation) -> Act:
+        """Of a place that is the program's own: nothing can be wrong, but bits may be undefined that were copied there."""
+        hart, checks = self.hart, self.checks
+        tags, rows, words, states = hart.tags, hart.rows, checks.memory.tags, checks.memory.states
+        rd, size, is_word = one.rd, one.size, one.size == 4
+        if not rd:
+            return nothing
+
+        def act(row: bytes) -> Optional[bool]:
+            address = int(row[-17:-9], 16)
+            tags[rd] = words[address >> 2] if is_word else None
+            rows[rd] = row
+            if rd == SP:
+                checks.stacks.set(hart, value_of(row), row, one)
+            elif states[address] > ENDED:
+                return checks.undefined.loaded(hart, one, address, checks.memory.undefined_bits(address, size))
+            return None
+        return act
+
+    def load(self, one: Operation, limit: Optional[Limit]) -> Act:
+        """`limit` is what tells the thing that an address misses; without it the register's tag does."""
+        hart, checks = self.hart, self.checks
+        tags, rows, states, words = hart.tags, hart.rows, checks.memory.states, checks.memory.tags
+        rd, rs, size, zeros = one.rd, one.rs1, one.size, ZEROS[one.size]
+        is_word = size == 4
+
+        def act(row: bytes) -> Optional[bool]:
+            address = int(row[-17:-9], 16)
+            thing = tags[rs] if limit is None else limit(hart, address)
+            bits = 0
+            if states[address:address + size] != zeros or thing is not None and (address < thing.low or address + size > thing.high):
+                bits = checks.judge.load(Access(hart, row, one, address, size, False, rs), thing)
+            if rd:
+                tags[rd] = words[address >> 2] if is_word and not bits else None
+                rows[rd] = row
+                if rd == SP:
+                    checks.stacks.set(hart, value_of(row), row, one)
+                if bits:
+                    return checks.undefined.loaded(hart, one, address, bits)
+            return None
+        return act
+
+    def of_store(self, one: Operation) -> Act:
+        """If sp itself is stored, that makes a pointer to the frame's first variable."""
+        act, is_made = self.store_of(one), one.rs2 == SP and one.size == 4
+        value = one.other if is_made and one.other and one.other.to == IN_FRAME and not one.other.indexed else None
+        thing_at = frame_thing(self.checks, self.hart, one, value) if value else None
+        if thing_at is None:
+            return act
+        hart, made = self.hart, thing_at
+
+        def store(row: bytes) -> None:
+            hart.tags[SP] = made(hart.sp)
+            act(row)
+            hart.tags[SP] = None
+        return store
+
+    def store_of(self, one: Operation) -> Act:
+        limit = self.checks.parts.limit(one)
+        if limit is not None:
+            self.checks.judge.limited.add(one.pc)
+            return self.store(one, limit)
+        if self.is_known_place(one) and one.base is not None:
+            return self.plain_store(one, one.base.to == IN_FRAME)
+        return self.store(one, no_limit if self.is_free(one) else None)
+
+    def plain_store(self, one: Operation, is_own: bool) -> Act:
+        """To a place that is the program's own; of the frame it is written then, or holds a saved register."""
+        hart, checks = self.hart, self.checks
+        memory, tags, rs2, size = checks.memory, hart.tags, one.rs2, one.size
+        states, words, sorts = memory.states, memory.tags, checks.pointers.sorts
+        zeros, saves, is_word = ZEROS[size], one.saves, size == 4
+
+        def act(row: bytes) -> None:
+            address = int(row[-17:-9], 16)
+            if is_own and saves and hart.is_own:
+                states[address:address + 4] = SAVED_WORD
+                memory.saved[address] = rs2, one.pc, row
+            elif is_own:
+                states[address:address + size] = zeros
+            elif states[address] > ENDED:
+                memory.fill(address, address + size, GOOD)
+            words[address >> 2] = tag = tags[rs2] if is_word else None
+            if sorts[address >> 2]:
+                checks.pointers.stored(hart, one, row, address, tag)
+        return act
+
+    def store(self, one: Operation, limit: Optional[Limit]) -> Act:
+        hart, checks = self.hart, self.checks
+        memory, tags, rs, rs2, size, zeros = checks.memory, hart.tags, one.rs1, one.rs2, one.size, ZEROS[one.size]
+        states, words, sorts, is_word = memory.states, memory.tags, checks.pointers.sorts, size == 4
+
+        def act(row: bytes) -> None:
+            address = int(row[-17:-9], 16)
+            thing = tags[rs] if limit is None else limit(hart, address)
+            if states[address:address + size] != zeros or thing is not None and (address < thing.low or address + size > thing.high):
+                checks.judge.store(Access(hart, row, one, address, size, True, rs), thing)
+            words[address >> 2] = tag = tags[rs2] if is_word else None
+            if sorts[address >> 2]:
+                checks.pointers.stored(hart, one, row, address, tag)
+        return act
+
+    def of_atomic(self, one: Operation) -> Act:
+        hart, checks = self.hart, self.checks
+        tags, words, states = hart.tags, checks.memory.tags, checks.memory.states
+        keeps, gives = one.name in ("amoswap", "sc"), one.name in ("lr", "amoswap")
+
+        def act(row: bytes) -> None:
+            at, old = max(row.rfind(b" | load "), row.rfind(b" | store ")), None
+            if at >= 0:
+                address, stores = int(row[-17:-9], 16), b"| store " in row
+                thing, old = tags[one.rs1], words[address >> 2]
+                if states[address:address + 4] != ZEROS[4] or thing is not None and not thing.holds(address, 4):
+                    access = Access(hart, row, one, address, 4, stores, one.rs1)
+                    checks.judge.store(access, thing) if stores else checks.judge.load(access, thing)
+                if stores:
+                    words[address >> 2] = tags[one.rs2] if keeps else None
+            if one.rd:
+                tags[one.rd] = old if gives else None
+                hart.rows[one.rd] = row
+        return act
+
+
+def no_limit(_: Hart, __: int) -> Optional[Thing]:
+    """Of an access of which nothing is known but the state of its bytes."""
+    return None

@@ -1,0 +1,86 @@
+"""Memory that a function asks for on its stack while it runs: by alloca, or for an array of no constant length.
+
+GCC adds 15 to the size, and 8 more for alloca, rounds it down to 16 and takes it from sp. So the size is known to the byte."""
+from __future__ import annotations
+
+from typing import Callable, Optional, Tuple
+
+from .facts import Facts
+from .operation import ALU, Operation
+from .state import Asked, Hart, count_of, value_of
+
+ROUNDED = 16                # bytes: sp is a multiple of it
+ADDED, ADDED_MORE = 15, 23  # to a size, to one of alloca
+SPARE = ADDED_MORE - ADDED
+REACH = 16                  # instructions between the sum and the use of its result
+
+
+def writer(facts: Facts, before: int, register: int) -> Optional[Operation]:
+    """The instruction that made what a register has there, in straight code without a call."""
+    for pc in range(before - 4, before - 4 * REACH - 4, -4):
+        one = facts.operations.get(pc)
+        if one is None or one.rd == register or one.is_jump:
+            return one if one is not None and one.kind == ALU and one.rd == register else None
+    return None
+
+
+def aligned_from(facts: Facts, one: Optional[Operation], bits: int) -> Optional[Tuple[int, int]]:
+    """The place and the register whose value an instruction has without its lowest bits; None if it's another one."""
+    if one is not None and one.name == "andi" and one.imm == -1 << bits:
+        return one.pc, one.rs1
+    if one is not None and one.name == "slli" and one.imm == bits:
+        shifted = writer(facts, one.pc, one.rs1)
+        if shifted is not None and shifted.name == "srli" and shifted.imm == bits:
+            return shifted.pc, shifted.rs1
+    return None
+
+
+def is_aligned_down(facts: Facts, one: Operation) -> bool:
+    """Whether two shifts clear the lowest bits of a pointer: by the first one it is none, but nothing is done with that."""
+    if one.name == "slli":
+        return aligned_from(facts, one, one.imm) is not None
+    following = facts.operations.get(one.pc + 4)
+    return bool(one.name == "srli" and following and following.name == "slli" and (following.rs1, following.imm) == (one.rd, one.imm))
+
+
+def sum_of_size(facts: Facts, one: Operation) -> Optional[Operation]:
+    """The sum of the size and what is added to it, for an instruction that takes the result from sp."""
+    rounded = aligned_from(facts, writer(facts, one.pc, one.rs2), 4)
+    found = writer(facts, *rounded) if rounded else None
+    return found if found is not None and found.name == "addi" and found.imm in (ADDED, ADDED_MORE) else None
+
+
+def becomes_size(facts: Facts, one: Operation) -> bool:
+    """Whether a sum is the one of a size."""
+    if one.name != "addi" or one.imm not in (ADDED, ADDED_MORE):
+        return False
+    following = (facts.operations.get(pc) for pc in range(one.pc + 4, one.pc + 3 * 4 * REACH, 4))
+    takes = next((each for each in following if each and each.takes_memory), None)
+    return takes is not None and sum_of_size(facts, takes) is one
+
+
+def size_asked(facts: Facts, one: Operation) -> Optional[Callable[[Hart, bytes], Asked]]:
+    """What gives the memory that a row asks for; None if an instruction asks for none. Of a size that nothing tells to the byte all
+    that sp was moved by counts."""
+    if not one.takes_memory:
+        return None
+    added = sum_of_size(facts, one)
+
+    def asked(hart: Hart, row: bytes) -> Asked:
+        new = value_of(row)
+        whole = hart.sp - new
+        if added is not None and hart.asking and count_of(row) - count_of(hart.asking) == (one.pc - added.pc) // 4:
+            exact = value_of(hart.asking) - ADDED
+            whole = exact if whole - ROUNDED < exact <= whole else whole
+        return Asked(new, whole)
+    return asked
+
+
+def pointer_to(facts: Facts, one: Operation) -> Tuple[int, int]:
+    """How far behind sp the memory begins to which an instruction makes a pointer, and which of its bytes are spare: alloca's pointer
+    is rounded up, whatever sp is."""
+    following = facts.operations.get(one.pc + 4)
+    if one.imm % ROUNDED == ADDED:
+        return one.imm - ADDED, SPARE
+    rounds = following is not None and following.name == "addi" and following.rs1 == one.rd and following.imm == ADDED
+    return one.imm, SPARE * rounds
