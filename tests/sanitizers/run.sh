@@ -1,8 +1,10 @@
 #!/usr/bin/env bash
 # Tries `zelkuma memory` on tests of AddressSanitizer and memcheck: tests/sanitizers/run.sh FOLDER
 #
-# FOLDER gets the sources of Debian's packages gcc-12-source and valgrind, and then of each test its ELF file and its log. Tests that need threads, shared libraries or signals don't build for this machine, which is said.
-# Needs apt-get, riscv64-unknown-elf-gcc and picolibc. It prints a line for each test, and last a table.
+# FOLDER gets the sources of Debian's packages gcc-12-source and valgrind, and then of each test its ELF file and its log. Tests that
+# need threads, shared libraries or signals don't build for this machine, which is said. Beside them stand the programs of fresh/, and
+# what AddressSanitizer and memcheck tell of each on this machine. Needs apt-get, gcc, valgrind, riscv64-unknown-elf-gcc and picolibc.
+# It prints a line for each test, and tests/sanitizers/tables.py FOLDER writes the tables of bench/RESULTS.md.
 set -eu
 top=$(cd "$(dirname "$0")/../.." && pwd)
 to=$(mkdir -p "$1" && cd "$1" && pwd)

@@ -1,7 +1,9 @@
-"""Builds each test, records it, and holds what `memory` tells against what the test says: tries.py FOLDER [gcc | memcheck].
+"""Builds each test, records it, and holds what `memory` tells against what the test says: tries.py FOLDER [gcc | memcheck | fresh].
 
 A test of GCC says by dg-shouldfail that it has an error, and by dg-output its kind and the line of its first frame. One of
-memcheck has its errors in NAME.stderr.exp. A test that says of no error has to be silent."""
+memcheck has its errors in NAME.stderr.exp, and one of fresh/ its guilty line in lines.txt. A test that says of no error has to
+be silent. Beside it stands what AddressSanitizer and memcheck tell of the same test on the machine that this runs on (peers.py).
+FOLDER/results.json gets all, of which tables.py makes tables."""
 from __future__ import annotations
 
 import json
@@ -9,57 +11,77 @@ import os
 import re
 import subprocess
 import sys
-from collections import Counter
-from typing import Iterator, NamedTuple
+from typing import Any, Dict, Iterable, Iterator, List, NamedTuple, Sequence, Tuple
 
-TOP = os.path.dirname(os.path.dirname(os.path.dirname(os.path.abspath(__file__))))
+import peers
+
+HERE = os.path.dirname(os.path.abspath(__file__))
+TOP = os.path.dirname(os.path.dirname(HERE))
 PROGRAM = os.environ.get("ZELKUMA_PROGRAM", os.path.join(TOP, "release", "zelkuma-x86_64-linux"))
 GCC = "riscv64-unknown-elf-gcc", "--specs=picolibc.specs", "-mabi=ilp32", "-mstrict-align", "-march=rv32im", "-g", "-w"
 LIMIT, PATIENCE_S, FIRST = "2000000", 120, 3
 INCLUDED = "valgrind", "valgrind/include", "valgrind/memcheck"
-ANY = "an error"            # of a kind that the test doesn't say
+ANY, LEAK = "an error", "memory-leak"           # ANY is of a kind that the test doesn't say
 HEAD = re.compile(r"AddressSanitizer:? ([a-z-]+)")
 FRAME = re.compile(r"(?:#0|#1)[^\n]*?([\w+-]+\.c):(\d+)")
+OPTIONS = re.compile(r'dg-(?:additional-)?options "([^"]*)"\s*\}')      # (those of one target alone have more behind)
+SETTINGS = re.compile(r'dg-set-target-env-var ASAN_OPTIONS "([^"]*)"')
+MEMCHECK_KINDS = (("Invalid read", "invalid-access"), ("Invalid write", "invalid-access"), ("Invalid free", "invalid-free"),
+                  ("uninitialised", "use-of-uninitialized-value"), ("overlap", "memcpy-param-overlap"), ("definitely lost in", LEAK))
 
 
 class Test(NamedTuple):
-    """`kind` is nothing if the test has no error; `lines` are those of its frames, if it says them; `levels` what it is built by."""
+    """kind      nothing if the test has no error
+    lines     those of its frames, if it says them
+    levels    what it is built by, beside its own options
+    settings  what it sets for AddressSanitizer"""
     name: str
     source: str
     kind: str
     lines: frozenset[int]
     levels: tuple[str, ...]
+    options: tuple[str, ...] = ()
+    settings: str = ""
+
+
+def text_of(path: str) -> str:
+    with open(path, encoding="latin-1") as file:
+        return file.read()
 
 
 def gcc_tests(folder: str) -> Iterator[Test]:
     for at, _, names in sorted(os.walk(folder)):
-        for name in sorted(names):
+        for name in sorted(name for name in names if name.endswith(".c")):
             path = os.path.join(at, name)
-            if not name.endswith(".c"):
-                continue
-            with open(path, encoding="latin-1") as file:
-                text = file.read()
+            text = text_of(path)
             if not re.search(r"dg-do\s+run", text):
                 continue
             told = " ".join(re.findall(r'dg-output "(.*?)" *(?:\{[^}]*\} *)?\}', text))
             kind = HEAD.search(told)
             is_bad = "dg-shouldfail" in text or kind is not None     # (some continue after an error, and end well)
             lines = frozenset(int(line) for file, line in FRAME.findall(told.replace("\\", "")) if file == name)
-            yield Test("gcc/" + name, path, (kind[1] if kind else ANY) if is_bad else "", lines, ("-O0", "-O2"))
+            options = tuple(word for words in OPTIONS.findall(text) for word in words.split()
+                            if word[:2] in ("-f", "-D") and "sanitize" not in word)
+            settings = SETTINGS.search(text)
+            yield Test("gcc/" + name, path, (kind[1] if kind else ANY) if is_bad else "", lines, ("-O0", "-O2"), options,
+                       settings[1] if settings else "")
 
 
 def memcheck_tests(folder: str) -> Iterator[Test]:
     for name in sorted(os.listdir(folder)) if os.path.isdir(folder) else ():
         path, said = os.path.join(folder, name), os.path.join(folder, name[:-2] + ".stderr.exp")
         if name.endswith(".c") and os.path.exists(said):
-            with open(said, encoding="latin-1") as file:
-                text = file.read()
-            kind = next((kind for words, kind in (
-                ("Invalid read", "invalid-access"), ("Invalid write", "invalid-access"), ("Invalid free", "invalid-free"),
-                ("uninitialised", "use-of-uninitialized-value"), ("overlap", "memcpy-param-overlap"),
-                ("definitely lost in", "memory-leak")) if words in text), "")
-            yield Test("memcheck/" + name, path, kind, frozenset(int(line) for line in re.findall(re.escape(name) + r":(\d+)\)", text)),
-                       ("-O0",))
+            text = text_of(said)
+            kind = next((kind for words, kind in MEMCHECK_KINDS if words in text), "")
+            lines = frozenset(int(line) for line in re.findall(re.escape(name) + r":(\d+)\)", text))
+            yield Test("memcheck/" + name, path, kind, lines, ("-O0",))
+
+
+def fresh_tests(folder: str) -> Iterator[Test]:
+    for line in text_of(os.path.join(folder, "lines.txt")).splitlines():
+        name, *lines = line.split()
+        if name != "#":
+            yield Test(f"fresh/{name}.c", os.path.join(folder, name + ".c"), ANY, frozenset(map(int, lines)), ("-O2",))
 
 
 def built(test: Test, folder: str, level: str) -> str:
@@ -67,53 +89,99 @@ def built(test: Test, folder: str, level: str) -> str:
     elf = os.path.join(folder, test.name.replace("/", "-")[:-2] + level + ".elf")
     if not os.path.exists(elf):
         parts = [os.path.join(TOP, "examples", "picolibc", name) for name in ("start.S", "machine.c")]
-        done = subprocess.run([*GCC, level, *(f"-I{os.path.join(folder, part)}" for part in INCLUDED), "-static", "-nostartfiles", "-T",
-                               os.path.join(TOP, "examples", "picolibc", "program.ld"), "-Wl,--build-id=none", "-z", "max-page-size=4096",
-                               "-march=rv32ima", "-o", elf, *parts, test.source], stderr=subprocess.PIPE, stdout=subprocess.PIPE)
+        done = subprocess.run([*GCC, level, *test.options, *(f"-I{os.path.join(folder, part)}" for part in INCLUDED), "-static",
+                               "-nostartfiles", "-T", os.path.join(TOP, "examples", "picolibc", "program.ld"), "-Wl,--build-id=none",
+                               "-z", "max-page-size=4096", "-march=rv32ima", "-o", elf, *parts, test.source],
+                              stderr=subprocess.DEVNULL, stdout=subprocess.DEVNULL)
         if done.returncode:
             return ""
     return elf
 
 
-def tried(test: Test, elf: str) -> tuple[str, str]:
-    """What came of a test, and what was told first."""
+def end_of(test: Test, kinds: Sequence[str], lines: Iterable[int]) -> str:
+    """What came of a test, of which these kinds and lines were told first."""
+    if not test.kind:
+        return "false" if kinds else "silent"
+    if test.lines:
+        is_named = bool(test.lines.intersection(lines))
+    else:
+        is_named = bool(kinds) and (test.kind == ANY or test.kind.split("-")[0] in {each.split("-")[0] for each in kinds})
+    return "named" if is_named else "another line" if kinds else "not told"
+
+
+def companion(*words: str) -> Dict[str, Any]:
+    done = subprocess.run([sys.executable, os.path.join(TOP, "companion"), *words, "--json"], stdout=subprocess.PIPE,
+                          stderr=subprocess.PIPE, timeout=PATIENCE_S)
+    answer: Dict[str, Any] = json.loads(done.stdout) if done.returncode == 0 else {"error": done.stderr.decode().strip()}
+    return answer
+
+
+def lines_in(found: Any) -> Iterator[int]:
+    """All lines of an answer's part."""
+    if isinstance(found, dict):
+        yield from (value for key, value in found.items() if key == "line" and value)
+    for each in found.values() if isinstance(found, dict) else found if isinstance(found, list) else ():
+        yield from lines_in(each)
+
+
+def by_memory(test: Test, log: str, elf: str) -> Tuple[str, str]:
+    """What came of a test by `memory`, and what was told first. Of a fresh one each line of a finding counts, as a reader sees it."""
+    answer = companion("memory", log, elf, *(["--leaks"] if test.kind == LEAK else []))
+    if "error" in answer:
+        return "isn't read", str(answer["error"])
+    lost = [{"kind": LEAK, "calls": each["calls"]} for each in answer["leaks"] if each["unreached"]]
+    found: List[Dict[str, Any]] = (answer["findings"] + lost)[:FIRST]
+    said = "; ".join(f"{each['kind']} {each['calls'][0]['line'] if each['calls'] else '?'}" for each in found)
+    near = lines_in(found) if test.name.startswith("fresh/") else (line["line"] for each in found for line in each["calls"][:2])
+    return end_of(test, [each["kind"] for each in found], near), said
+
+
+def by_why(test: Test, log: str, elf: str) -> str:
+    """The same of the first suspects of `why`."""
+    suspects = companion("why", log, elf).get("suspects", [])[:FIRST]
+    return end_of(test, [ANY] * len(suspects), lines_in(suspects))
+
+
+def tried(test: Test, elf: str) -> Dict[str, str]:
+    """What came of a test by each."""
     log = elf[:-4] + ".log"
     subprocess.run([PROGRAM, "record", "--format", "2", "--seed", "1", "--limit", LIMIT, elf, log, elf[:-4] + ".book"],
                    stdout=subprocess.DEVNULL, stderr=subprocess.DEVNULL, timeout=PATIENCE_S)
     if not os.path.exists(log):
-        return "isn't recorded", ""
-    done = subprocess.run([sys.executable, os.path.join(TOP, "companion"), "memory", log, elf, "--json"], stdout=subprocess.PIPE,
-                          stderr=subprocess.PIPE, timeout=PATIENCE_S)
-    if done.returncode:
-        return "isn't read", done.stderr.decode().strip()
-    found = json.loads(done.stdout)["findings"]
-    first = "; ".join(f"{each['kind']} {each['calls'][0]['line'] if each['calls'] else '?'}" for each in found[:FIRST])
-    if not test.kind:
-        return ("false" if found else "silent as it should be"), first
-    lines = {each["line"] for one in found[:FIRST] for each in one["calls"][:2]}
-    kinds = {each["kind"].split("-")[0] for each in found[:FIRST]}
-    is_of_kind = bool(kinds) and (test.kind == ANY or test.kind.split("-")[0] in kinds)
-    if lines & test.lines if test.lines else is_of_kind:
-        return "named", first
-    return ("another line" if found else "not told"), first
+        return {"memory": "isn't recorded"}
+    end, told = by_memory(test, log, elf)
+    found = {"memory": end, "told": told}
+    if test.name.startswith("fresh/"):
+        found["why"] = by_why(test, log, elf)
+    return found
 
 
-def main(folder: str, only: str = "") -> None:
-    tests = [*gcc_tests(os.path.join(folder, "gcc")), *memcheck_tests(os.path.join(folder, "valgrind", "memcheck", "tests"))]
-    tests = [test for test in tests if test.name.startswith(only)]
-    ends: Counter[str] = Counter()
-    for test in tests:
+def results(folder: str, only: str) -> Iterator[Dict[str, Any]]:
+    tests = [*gcc_tests(os.path.join(folder, "gcc")), *memcheck_tests(os.path.join(folder, "valgrind", "memcheck", "tests")),
+             *fresh_tests(os.path.join(HERE, "fresh"))]
+    for test in (test for test in tests if test.name.startswith(only)):
         for level in test.levels:
             elf = built(test, folder, level)
             try:
-                end, told = tried(test, elf) if elf else ("doesn't build", "")
+                ours = tried(test, elf) if elf else {"memory": "doesn't build"}
             except subprocess.TimeoutExpired:
-                end, told = "takes too long", ""
-            wanted = test.kind or "good"
-            ends[f"{wanted}: {end}"] += 1
-            print(f"{test.name} {level} {wanted} {sorted(test.lines)}: {end} {told}", flush=True)
-    for what, times in sorted(ends.items()):
-        print(f"{times:5} {what}")
+                ours = {"memory": "takes too long"}
+            yield {"test": test.name, "level": level, "kind": test.kind, "lines": sorted(test.lines), **ours,
+                   **{name: end_of(test, *told) if told else "doesn't build" for name, told in (
+                       ("AddressSanitizer", peers.by_sanitizer(test, folder, level)), ("memcheck", peers.by_memcheck(test, folder, level)))}}
+
+
+def main(folder: str, only: str = "") -> None:
+    """Results of other groups, and those of an earlier run, stay."""
+    path = os.path.join(folder, "results.json")
+    kept = json.loads(text_of(path)) if os.path.exists(path) else []
+    kept = [each for each in kept if not each["test"].startswith(only)]
+    for each in results(folder, only):
+        print(*(f"{key} {value};" for key, value in each.items()), flush=True)
+        kept.append(each)
+        with open(path + ".new", "w", encoding="utf-8") as file:
+            json.dump(kept, file, indent=0)
+    os.replace(path + ".new", path)
 
 
 if __name__ == "__main__":
