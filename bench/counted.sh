@@ -2,7 +2,8 @@
 # Counts what commands cost in instructions of the processor, by callgrind: other work doesn't change them, so a machine
 # with the same C library repeats them. Harts in threads take turns by the system's choice, so theirs vary a little.
 #
-# bench/counted.sh PROGRAM..: takes some three minutes for each program.
+# bench/counted.sh PROGRAM..: takes some three minutes for each program. If ZELKUMA_GUESTS is a folder of bench/guests.sh,
+# the first 6 million instructions of bzip2 and TinyScheme are counted, too.
 set -eu
 top=$(cd "$(dirname "$0")/.." && pwd)
 work=$(mktemp -d)
@@ -33,6 +34,12 @@ for program; do
     tell "record, sort" "$first" "$taken" "a turn"
     audit=$(count audit "$work/LOG" "$top/examples/sort.elf" "$work/BOOK")
     tell "audit of it" "$audit" "$taken" "a turn" "$((first / taken))"
+    for name in bzip2 tinyscheme; do
+        guest=${ZELKUMA_GUESTS-}/$name
+        [ -e "$guest.elf" ] || continue
+        first=$(count record --seed 1 --memory 4194304 --limit 6000000 --input "$guest.input" "$guest.elf" "$work/LOG" "$work/BOOK")
+        tell "record, $name" "$first" "$(turns)" "a turn"
+    done
     second=$(count record --seed 1 --format 2 "$top/examples/sort.elf" "$work/LOG" "$work/BOOK")
     tell "record in format 2" "$second" "$(turns)" "a turn"
     "$program" record --seed 1 --limit 1000000 --interval 1000000 --log-size 16777216 "$top/examples/sort.elf" "$work/LOG" "$work/BOOK" 2>/dev/null || true

@@ -10,7 +10,7 @@
 #   beside a replay
 # - a replay and a joint replay into a pipe
 # - how far back a log of 1 MiB reaches in each example
-# - five programs beside qemu-riscv32, one instruction at a time: sort, and the four of bench/guests.sh
+# - six programs beside qemu-riscv32, one instruction at a time: sort, and the five of bench/guests.sh
 #
 # bench/programs.sh [RUNS]: each is run RUNS times (3), and the least processor time counts. ZELKUMA_GUESTS is a folder
 # of bench/guests.sh (else the programs are built), and ZELKUMA_THREAD_TURNS the turns of a long recording of harts in
@@ -318,7 +318,7 @@ if command -v qemu-riscv32 >/dev/null; then
     cat "$guests/SOURCES"
     : >"$work/none"
     beside_emulator sort "$elf" "$work/none" "$code"
-    for name in bzip2 mujs lua sqlite; do
+    for name in bzip2 mujs tinyscheme lua sqlite; do
         [ ! -e "$guests/$name.elf" ] ||
             beside_emulator "$name" "$guests/$name.elf" "$guests/$name.input" 0 --memory 4194304
     done
