@@ -1,20 +1,21 @@
 """Calls a companion: python3 companion WORD .., or python3 -m companion WORD .."""
-import importlib
-import os
-import signal
 import sys
 
 INTERRUPTED = 130           # what a shell says of a program that Ctrl-C ended
+# These are in python itself: to import `signal` and `os` takes so long that Ctrl-C could come meanwhile.
+signals, system = __import__("_signal"), __import__("posix")
 
 
 def end_at_once(*_: object) -> None:
-    os._exit(INTERRUPTED)
+    system._exit(INTERRUPTED)
 
 
 if __name__ == "__main__":
     # Until the companion's own handling stands, Ctrl-C ends the call; one that was started to ignore it ignores it.
-    if signal.getsignal(signal.SIGINT) is not signal.SIG_IGN:
-        signal.signal(signal.SIGINT, end_at_once)
+    if signals.getsignal(signals.SIGINT) != signals.SIG_IGN:
+        signals.signal(signals.SIGINT, end_at_once)
+    import importlib
+    import os
     if not __package__:                         # a folder was called: its modules are found from the one around it
         sys.path[0] = os.path.dirname(os.path.dirname(os.path.abspath(__file__)))
     try:

@@ -7,7 +7,7 @@ from functools import cached_property
 from typing import Iterator, NamedTuple, Optional
 
 from ..recording.dwarf import (
-    BLOCK, FRAME_BASE, FUNCTION, HIGH, INLINED, LOCATION, LONGEST_NAME, LOW, PARAMETER, VARIABLE, Dwarf, Entry, signed)
+    BLOCK, FRAME_BASE, FUNCTION, HIGH, INLINED, LOCATION, LONGEST_NAME, LOW, PARAMETER, VARIABLE, Entry, dwarf_of, signed)
 from ..recording.elf import FUNCTION as FUNCTION_SYMBOL
 from ..recording.elf import Elf, Symbol
 from ..recording.types import Types
@@ -52,7 +52,7 @@ class Program:
     """`elf` is the file with names, if it was stripped."""
 
     def __init__(self, elf: Elf) -> None:
-        self.elf, self.dwarf = elf, Dwarf(elf)
+        self.elf, self.dwarf = elf, dwarf_of(elf)
         self.types = Types(self.dwarf)
         self.objects = sorted(Object(each.address, each.address + each.size, each.name) for each in elf.objects if each.size)
         self.object_begins = [each.begin for each in self.objects]

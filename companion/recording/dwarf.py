@@ -4,6 +4,7 @@ Any bytes can be given: a unit that makes no sense is left out, so many entries 
 without an end. gdb tells the same of a program, but can't be asked of each access."""
 from __future__ import annotations
 
+import functools
 import struct
 from typing import Dict, List, NamedTuple, Optional, Tuple, Union
 
@@ -169,6 +170,12 @@ class Dwarf:
         """The place of an entry's type."""
         found = self.of(entry, TYPE)
         return found if isinstance(found, int) else None
+
+
+@functools.lru_cache(maxsize=1)
+def dwarf_of(elf: Elf) -> Dwarf:
+    """Of a file it is read once, whatever parts of a companion ask for it."""
+    return Dwarf(elf)
 
 
 def sections_of(data: bytes) -> dict[str, bytes]:

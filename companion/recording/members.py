@@ -4,7 +4,7 @@ from __future__ import annotations
 from functools import cached_property
 from typing import Optional
 
-from .dwarf import ARRAY, CLASS, COUNT, LOCATION, STRUCT, SUBRANGE, UPPER, VARIABLE, Dwarf, Entry
+from .dwarf import ARRAY, CLASS, COUNT, LOCATION, STRUCT, SUBRANGE, UPPER, VARIABLE, Entry, dwarf_of
 from .elf import Elf
 from .types import Types
 
@@ -20,7 +20,7 @@ class Members:
 
     @cached_property
     def types(self) -> Types:
-        return Types(Dwarf(self.elf))
+        return Types(dwarf_of(self.elf))
 
     @cached_property
     def objects(self) -> dict[int, Optional[int]]:

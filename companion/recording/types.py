@@ -3,17 +3,21 @@
 A type is the place of its entry. Chains and depths are bounded, since an entry can name any other, itself as well."""
 from __future__ import annotations
 
-from typing import NamedTuple, Optional
+import bisect
+from itertools import islice
+from typing import Iterator, NamedTuple, Optional, Tuple
 
 from .dwarf import (
     ARRAY, BASE, BITS, BYTE_SIZE, CLASS, COUNT, ENUM, MEMBER, OFFSET, POINTER, ROUTINE, STRUCT, SUBRANGE, UNION, UPPER, Dwarf, Entry)
 
 WRAPPERS = {0x16, 0x26, 0x35, 0x47, 0x37}       # typedef, const, volatile, atomic, restrict
 LONGEST_CHAIN, DEEPEST = 16, 12                 # wrappers around a type; types in types
+MOST_OVERLAPS = 16                              # members that begin at a place or before, of which one is looked for that has it
 LARGEST = 1 << 26                               # bytes of a type, and elements of an array: memory is no larger
 MOST_PARTS = 1 << 16                            # arrays or pointers of a type that are listed
 MOST_STEPS = 1 << 20                            # entries of all lists together: forged types could double with each level
 TO_ANY, TO_ALIGNED, TO_CODE = 1, 2, 3           # what a pointer leads to
+Member = Tuple[int, Optional[int], str]         # offset, type, name
 
 
 class Part(NamedTuple):
@@ -36,6 +40,7 @@ class Types:
     def __init__(self, dwarf: Dwarf) -> None:
         self.dwarf = dwarf
         self.sizes: dict[int, int] = {}
+        self.listed: dict[int, list[Member]] = {}
         self.parts: dict[int, list[Part]] = {}
         self.pointers: dict[int, list[tuple[int, int]]] = {}
         self.left = MOST_STEPS
@@ -87,22 +92,27 @@ class Types:
         found = self.entry(kind)
         return self.structure(self.dwarf.type_of(found)) if found is not None and found.tag == POINTER else 0
 
-    def members(self, kind: Optional[int]) -> list[tuple[int, Optional[int], str]]:
-        """(offset, type, name) of a structure's members that are no bit-fields."""
+    def members(self, kind: Optional[int]) -> list[Member]:
+        """A structure's members that are no bit-fields, by their places."""
         found = self.entry(kind)
         if found is None or found.tag not in (STRUCT, CLASS):
             return []
-        return [(each.number(OFFSET) or 0, self.dwarf.type_of(each), self.dwarf.name_of(each)) for each in found.below
-                if each.tag == MEMBER and BITS not in each.told and isinstance(each.told.get(OFFSET, 0), int)]
+        if found.at not in self.listed:
+            told = [(each.number(OFFSET) or 0, self.dwarf.type_of(each), self.dwarf.name_of(each)) for each in found.below
+                    if each.tag == MEMBER and BITS not in each.told and isinstance(each.told.get(OFFSET, 0), int)]
+            self.listed[found.at] = sorted(told, key=lambda member: member[0])
+        return self.listed[found.at]
 
-    def member_at(self, kind: Optional[int], offset: int) -> Optional[tuple[int, Optional[int], str]]:
+    def member_at(self, kind: Optional[int], offset: int) -> Optional[Member]:
         """The member that an offset is in."""
-        return next((each for each in self.members(kind) if each[0] <= offset < each[0] + self.size(each[1])), None)
+        listed = self.members(kind)
+        end = bisect.bisect_left(listed, (offset + 1,))
+        return next((each for each in listed[max(0, end - MOST_OVERLAPS):end][::-1] if offset < each[0] + self.size(each[1])), None)
 
-    def arrays(self, kind: Optional[int]) -> list[Part]:
+    def arrays(self, kind: Optional[int], depth: int = 0) -> list[Part]:
         """The arrays that are members of a structure or of structures in it."""
         found = self.entry(kind)
-        if found is None:
+        if found is None or depth > DEEPEST:
             return []
         if found.at not in self.parts:
             listed = self.parts[found.at] = []  # (of one that holds itself nothing is listed)
@@ -111,9 +121,9 @@ class Types:
                 if self.is_array(of):
                     inner = [Part(path, offset, offset + self.size(of))]
                 else:
-                    inner = [Part(path + part.path, offset + part.begin, offset + part.end) for part in self.arrays(of)]
-                listed += inner[:max(0, self.left)]
-                self.left -= len(inner)
+                    inner = [Part(path + part.path, offset + part.begin, offset + part.end) for part in self.arrays(of, depth + 1)[:self.left]]
+                listed += inner[:self.left]
+                self.left = max(0, self.left - len(inner))
         return self.parts[found.at]
 
     def array_at(self, kind: Optional[int], offset: int, near: int = 0) -> Optional[Part]:
@@ -181,30 +191,31 @@ class Types:
             offset, kind = offset - member[0], member[1]
         return 0
 
-    def pointers_in(self, kind: Optional[int]) -> list[tuple[int, int]]:
+    def pointers_in(self, kind: Optional[int], depth: int = 0) -> list[tuple[int, int]]:
         """(offset, what it leads to) of the pointers in a type, without those of unions and those to void."""
         found = self.entry(kind)
-        if found is None:
+        if found is None or depth > DEEPEST:
             return []
         if found.at not in self.pointers:
             self.pointers[found.at] = []        # (of one that holds itself nothing is listed)
-            listed = self.new_pointers(found)[:max(0, min(self.left, MOST_PARTS))]
+            listed = list(islice(self.new_pointers(found, depth + 1), min(self.left, MOST_PARTS)))
             self.pointers[found.at] = listed
-            self.left -= len(listed)
+            self.left = max(0, self.left - len(listed))
         return self.pointers[found.at]
 
-    def new_pointers(self, found: Entry) -> list[tuple[int, int]]:
+    def new_pointers(self, found: Entry, depth: int) -> Iterator[tuple[int, int]]:
         of = self.dwarf.type_of(found)
         if found.tag == POINTER:
             if self.is_a(of, ROUTINE):
-                return [(0, TO_CODE)]
-            # (into a pointer to void programs put numbers, too)
-            return [(0, TO_ALIGNED if self.is_aligned(of) else TO_ANY)] if self.entry(of) else []
-        if found.tag == ARRAY:
-            inner, size = self.pointers_in(of), self.size(of)
-            count = min(self.size(found.at) // size, MOST_PARTS // len(inner)) if size and inner else 0
-            return [(size * at + offset, to) for at in range(count) for offset, to in inner]
-        return [(begin + offset, to) for begin, kind, _ in self.members(found.at) for offset, to in self.pointers_in(kind)]
+                yield 0, TO_CODE
+            elif self.entry(of):                # (into a pointer to void programs put numbers, too)
+                yield 0, TO_ALIGNED if self.is_aligned(of) else TO_ANY
+        elif found.tag == ARRAY:
+            inner, size = self.pointers_in(of, depth), self.size(of)
+            count = self.size(found.at) // size if size and inner else 0
+            yield from ((size * at + offset, to) for at in range(count) for offset, to in inner)
+        else:
+            yield from ((begin + offset, to) for begin, kind, _ in self.members(found.at) for offset, to in self.pointers_in(kind, depth))
 
     def is_aligned(self, kind: Optional[int], depth: int = 0) -> bool:
         """Whether each thing of a type begins at a multiple of four."""

@@ -10,22 +10,13 @@ import sys
 import time
 
 import cases
-from common import COMPANION, CRASHES, EXAMPLES, PROGRAM, companion, content
+from common import COMPANION, CRASHES, EXAMPLES, PROGRAM, TOP, companion, content
+from processes import below, is_running
 
 HAND_OVER = os.path.join(EXAMPLES, "hand_over.elf")
 BOUND = 60                  # seconds after which a call hangs
 WHEN, AT_ONCE = (0, 0.3, 0.8, 1.6), 0.5     # processor seconds: after so many Ctrl-C comes, and in so many more all ends (0.2 is the goal)
 STATUSES = {signal.SIGINT: 130, signal.SIGTERM: 143, signal.SIGHUP: 129}
-
-
-def below(process):
-    """All processes that stem from one."""
-    try:
-        with open(f"/proc/{process}/task/{process}/children", encoding="ascii") as file:
-            found = [int(word) for word in file.read().split()]
-    except OSError:
-        return []
-    return found + [each for child in found for each in below(child)]
 
 
 def programs(process, name="sleep"):
@@ -38,14 +29,6 @@ def programs(process, name="sleep"):
         except OSError:
             pass
     return found
-
-
-def is_running(process):
-    try:
-        with open(f"/proc/{process}/stat", encoding="ascii", errors="replace") as file:
-            return file.read().rsplit(")", 1)[1].split()[0] != "Z"
-    except OSError:
-        return False
 
 
 def awaits(what):
@@ -256,6 +239,15 @@ def case_a_signal_ends_what_seeds_shrink(recordings):
         assert process.returncode == status and b"the search was ended before it was done" in err, (process.returncode, err)
         awaits(lambda: not any(map(is_running, began)))
         assert subprocess.run([PROGRAM, "audit", log, elf, book], stdout=subprocess.PIPE, check=True).stdout == b"agree\n"
+
+
+def case_packages_are_not_imported_at_the_start(recordings):
+    """Ctrl-C would end that with a traceback and status 1."""
+    recordings.write("sitecustomize.py", b"raise SystemExit('imported')")
+    for words in ["why", "--help"], ["--version"]:
+        done = subprocess.run([os.path.join(TOP, "zelkuma"), *words], stdout=subprocess.PIPE, stderr=subprocess.PIPE, check=False,
+                              env=dict(os.environ, PYTHONPATH=recordings.folder))
+        assert (done.returncode, done.stderr) == (0, b""), done
 
 
 def case_the_end_of_the_terminal_can_be_ignored(recordings):

@@ -12,8 +12,9 @@ from companion.memory import facts
 from companion.memory.parts import Parts
 from companion.memory.program import Program
 from companion.recording import dwarf
-from companion.recording.dwarf import ARRAY, BYTE_SIZE, MEMBER, OFFSET, POINTER, STRUCT, SUBRANGE, TYPE, UPPER, Dwarf, Entry, Unit
+from companion.recording.dwarf import ARRAY, BASE, BYTE_SIZE, MEMBER, OFFSET, POINTER, STRUCT, SUBRANGE, TYPE, UPPER, Dwarf, Entry, Unit
 from companion.recording.elf import Elf
+from companion.recording.members import Members
 from companion.recording.types import Types
 
 GDB = "gdb-multiarch"
@@ -77,15 +78,32 @@ class DwarfTest(case.Case):
     def test_types_that_hold_themselves(self):
         """An array of itself, a structure in itself, and structures that double at each level."""
         doubled = [(at, STRUCT, {BYTE_SIZE: 1 << 20}, [(MEMBER, {OFFSET: 64 * part, TYPE: at + 1}) for part in range(2)])
-                   for at in range(10, 60)]
+                   for at in range(100, 3000)]
         types = self.types_of((1, ARRAY, {TYPE: 1}, [(SUBRANGE, {UPPER: 3})]), (2, STRUCT, {BYTE_SIZE: 8}, [(MEMBER, {TYPE: 2})]),
                               (3, 0x16, {TYPE: 3}, []), *doubled, (60, POINTER, {TYPE: 60}, []))
-        for kind in (1, 2, 3, 10, 60):
+        for kind in (1, 2, 3, 100, 60):
             self.assertLess(types.size(kind), 1 << 26)
             self.assertLessEqual(len(types.arrays(kind)), 1 << 20)
             self.assertLessEqual(len(types.pointers_in(kind)), 1 << 16)
             types.pointee_at(kind, 0)
             types.structures_at(kind, 0, 4, "")
+
+    def test_many_members(self):
+        """Each is read once, however often one is asked for; and of a structure of many structures of many pointers some are listed."""
+        many = 3000
+        types = self.types_of(*[(at, STRUCT, {BYTE_SIZE: 4 * many}, [(MEMBER, {OFFSET: 4 * part, TYPE: at + 1}) for part in range(many)])
+                                for at in (1, 2)], (3, POINTER, {TYPE: 4}, []), (4, BASE, {BYTE_SIZE: 4}, []))
+        with unittest.mock.patch.object(types.dwarf, "name_of", wraps=types.dwarf.name_of) as named, \
+                unittest.mock.patch.object(types, "is_aligned", return_value=True) as led:
+            for offset in range(0, 4 * many, 8):
+                self.assertEqual(types.member_at(2, offset + 1)[0], offset)
+            self.assertEqual(len(types.pointers_in(1)), 1 << 16)
+        self.assertLessEqual(named.call_count, 2 * many)
+        self.assertLessEqual(led.call_count, many)
+
+    def test_a_file_is_read_once(self):
+        elf = Elf(self.elf("heap"))
+        self.assertIs(Members(elf).types.dwarf, Program(elf).dwarf)
 
     def test_an_analysis_that_takes_too_long_is_left(self):
         """Then nothing is known of the function."""
