@@ -39,8 +39,8 @@ inside bash -c 'cd /work && zelkuma record --format 2 --harts 4 --seed 10 filter
 inside bash -c 'cd /work && zelkuma why LOG filters.elf' | grep -q 'filters.c:93' || stop 1 "why tells no line in the image"
 inside bash -c 'cd /work && type -P gdb-multiarch >/dev/null' || stop 1 "the image has no gdb"
 steps >"$root/work/steps"
-inside PROGRAM=filters.elf OPTIONS='--format 2 --harts 4' NUMBERS='1 12' PART=1/1 GITHUB_STEP_SUMMARY=/work/summary \
-    bash -c 'cd /work && bash --noprofile --norc -eo pipefail steps' >&2 # as the service does
+inside PROGRAM=filters.elf OPTIONS='--format 2 --harts 4' NUMBERS='1 12' PART=1/1 FAIL=true GITHUB_STEP_SUMMARY=/work/summary \
+    bash -c 'cd /work && bash --noprofile --norc -eo pipefail steps' >&2 || [ $? = 23 ] # as the service does
 grep -q 'LoadOutside apply filters.c:93' "$root/work/found/table.txt" || stop 1 "the action found no crash"
 grep -q 'SUSPECTS' "$root/work/summary" || stop 1 "the action explained none"
 ls "$root"/work/found/*.short.log "$root"/work/found/{junit.xml,table.html} "$root"/work/found/*-[0-9]*.html >/dev/null

@@ -60,6 +60,7 @@ tries tests/script/calls.sh
 tries tests/script/launcher.sh "$program"
 tries tests/script/slips.py "$program"
 tries tests/script/own_program.sh "$program"
+tries tests/script/action.sh "$program"
 tries tests/pages/help.sh "$program"
 tries tests/sources/definitions.sh
 tries tests/sources/contracts.py

@@ -3,7 +3,7 @@ from __future__ import annotations
 
 from typing import List, Mapping
 
-from ..call.errors import REFUSED, CompanionError
+from ..call.errors import FOUND, REFUSED, CompanionError
 from ..call.options import AND, read_words
 from ..call.text import number
 from ..recording.answers import put_found
@@ -30,7 +30,6 @@ C's allocators (malloc, calloc, realloc, free, ..) are known by their names. A f
 FORM = "memory LOG ELF [--alloc FN] [--free FN] [--leaks] [--names ELF] [--rows N] [--json] [--fail]"
 MOST_ROWS = 20000000        # some 20 seconds
 LARGEST_MEMORY = 64 << 20   # bytes of the guest: of each word a tag of eight bytes is kept
-FOUND = 23                  # the status of --fail
 
 
 def notes_of(log: Log) -> List[str]:

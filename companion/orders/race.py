@@ -4,7 +4,7 @@ from __future__ import annotations
 from typing import Any, Callable, List, Optional
 
 from ..call import streams
-from ..call.errors import CompanionError
+from ..call.errors import FOUND, CompanionError
 from ..call.options import read_words, whole
 from ..call.text import counted, number
 from ..recording.answers import LONGEST, place_of, put_answer
@@ -16,25 +16,30 @@ from ..recording.recent import FIRST_ROWS, LogFile
 from ..recording.story import STORY_HEAD, Teller, asked_story
 from ..recording.trace import Trace, read_trace
 from ..why.history import History
+from .ignored import Ignored
 
 HELP = """Groups the races of a log by the two places and the word, the likeliest cause of its fault first. Words of one object
 with the same places, as an array's, are told together.
 
-    zelkuma race LOG ELF [--names ELF] [--source DIR] [--max N] [--book BOOK] [--input FILE] [--more] [--json]
+    zelkuma race LOG ELF [--names ELF] [--source DIR] [--max N] [--ignore FILE] [--book BOOK] [--input FILE] [--more] [--json]
+                 [--fail]
 
 --names   the program with its names and lines, if ELF was stripped
 --source  shows sources below this folder too, not only below ELF's and the current one; may be given several times
 --max     how many pairs are asked for at most, 1 to 1000000 (200000 without it)
 --book    tells first the switches between harts, if BOOK has no more than 40 of them, as that of `zelkuma shrink`
 --input   what the run read: with BOOK it is run again, to see that this is LOG's
+--ignore  leaves out what a file names, a line each: an object or a word (counter, 00011450), a function (drop), a line
+          (queue.c:12), or two places with " and " between them; * is any letters, and # begins a comment
 --more    tells all groups; without it the first twelve
 --json    prints one JSON object in place of the text (docs/JSON.md)
+--fail    the status is 23 if a group is left that no fences order
 
 First come groups on the chain of values behind the fault, then those in the function that faulted, then the others;
 behind them groups that fences order if they are meant so, and last the fenced accesses themselves: loads and stores
 beside a `fence`, as GCC writes acquire and release. That order and the grouping are this command's own judgement.
 The exact list is that of `zelkuma races`: pairs of accesses that no atomic instruction orders."""
-FORM = "race LOG ELF [--names ELF] [--source DIR] [--max N] [--book BOOK] [--input FILE] [--more] [--json]"
+FORM = "race LOG ELF [--names ELF] [--source DIR] [--max N] [--ignore FILE] [--book BOOK] [--input FILE] [--more] [--json] [--fail]"
 FAR = 1 << 20                                # what a row costs that isn't on the chain
 MOST, GROUPS_TOLD, BRIEF_TOLD = 200000, 12, 6
 KINDS = ("", ORDERED, FENCED)                # in the order in which groups are told
@@ -51,7 +56,8 @@ class Judged:
 
     A family is the groups of one object's words that have the same places. It is told as one group."""
 
-    def __init__(self, races: Races, trace: Optional[Trace] = None, history: Optional[History] = None) -> None:
+    def __init__(self, races: Races, trace: Optional[Trace] = None, history: Optional[History] = None,
+                 ignored: Ignored = Ignored([])) -> None:
         """`history` is of the rows behind the fault, or None if no hart faulted."""
         self.races, self.rows = races, trace and trace.rows
         self.chain: dict[int, int] = {}
@@ -62,7 +68,8 @@ class Judged:
         self.costs: list[Optional[int]] = [None] * len(races.groups)
         self.words: dict[int, int] = {}
         self.follow_chain()
-        self.groups = sorted(races.groups, key=self.key)
+        self.groups = sorted((group for group in races.groups if not ignored.fits(races, group)), key=self.key)
+        self.left_out = len(races.groups) - len(self.groups)
 
     def follow_chain(self) -> None:
         """The least cost of a pair with a row on the chain, for each group and each word."""
@@ -98,6 +105,11 @@ class Judged:
         if not self.chain:
             return group.first[0]
         return min(group.first, key=lambda pair: sum(self.cost(access.at()) for access in pair))
+
+    @property
+    def is_finding(self) -> bool:
+        """Whether a group is left that no fences order."""
+        return any(not group.kind for group in self.groups)
 
     def families(self) -> list[list[Group]]:
         found: dict[tuple[str, Symbol | int, str, str], list[Group]] = {}
@@ -157,18 +169,19 @@ def report(races: Races, judged: Judged, more: bool, beside: Beside) -> list[str
             lines += [brief_line(races, family)] if kind else family_lines(races, family, place, judged, beside)
         if len(told) < len(found):
             lines.append(f"    .. {counted(len(found) - len(told), 'more group')} (--more) ..")
-    return lines + races.places.trouble()
+    ignored = [f"left out: {counted(judged.left_out, 'group')} that --ignore names"] if judged.left_out else []
+    return lines + ignored + races.places.trouble()
 
 
-def judge(source: LogFile, elf_name: str, races: Races) -> Judged:
+def judge(source: LogFile, elf_name: str, races: Races, ignored: Ignored) -> Judged:
     """The groups in order; if a hart faulted, the chain behind its fault is followed in the last rows."""
     log = source.end(FIRST_ROWS) if races.groups else None
     if not log or not log.faulted:
-        return Judged(races)
+        return Judged(races, ignored=ignored)
     trace = read_trace(log, elf_name, most=2 * FIRST_ROWS)
     fault = trace.rows.fault
     with streams.working("what is behind the fault is looked for"):
-        return Judged(races, trace, History(trace, [fault.row])) if fault else Judged(races)
+        return Judged(races, trace, History(trace, [fault.row]) if fault else None, ignored)
 
 
 def family_answer(races: Races, judged: Judged, family: list[Group]) -> dict[str, Any]:
@@ -186,19 +199,20 @@ def access_answer(races: Races, access: RacingAccess) -> dict[str, Any]:
 def main(words: list[str]) -> int:
     (log_name, elf_name), given = read_words(words, FORM)
     most = whole(given.get("--max", str(MOST)), 1, 1000000, "--max")
+    ignored = Ignored.of(given.get("--ignore", ""))
     with opened(log_name, elf_name, given) as found:
         source = found.source
         races = Races(found.named, found.places).read(source.harts(), log_name, elf_name, most)
         if races.over:
             raise CompanionError(f"races: more than {most} pairs; --max takes up to 1000000", TOO_MANY)
-        judged, teller = judge(source, elf_name, races), Teller(found.named, races.places)
+        judged, teller = judge(source, elf_name, races, ignored), Teller(found.named, races.places)
         story = asked_story(given, source.end(FIRST_ROWS), elf_name) if "--book" in given else None
         if "--json" in given:
             groups = [family_answer(races, judged, family) for family in judged.families()]
-            put_answer("race", pairs=races.total, groups=groups, book=teller.story_answer(story))
+            put_answer("race", pairs=races.total, groups=groups, ignored=judged.left_out, book=teller.story_answer(story))
         else:
             def beside(access: RacingAccess) -> list[str]:
                 return found.ready(access.hart, access.count)
             told = [STORY_HEAD] + ["  " + line for line in teller.story(story)] if story else []
             streams.put("\n".join(told + report(races, judged, "--more" in given, beside)) + "\n")
-    return 0
+    return FOUND if "--fail" in given and judged.is_finding else 0

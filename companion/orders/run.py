@@ -13,7 +13,7 @@ from ..call.files import check_regular
 from ..call.kinds import LOG, TURNS
 from ..call.options import decimal, parse, whole
 from ..call.saving import take_together, target
-from ..recording.recent import open_log
+from ..recording.recent import exit_code
 from ..why.why import brief_of
 from .record import DONE, ENDS, LIMIT, NUMBERS, RECORD_OPTIONS, SCHEDULE, Quick, last_line, refusal
 
@@ -127,22 +127,11 @@ class Run:
         saved = [(place, name) for place, name in zip(self.targets, step.files) if os.path.exists(name)]
         take_together(saved)
         streams.say(f"{' and '.join(place.name for place, _ in saved)}: {summary}")
-        status = TIMED_OUT if step.status == LIMIT else exit_status(self.log.path) if step.status == DONE else FAULTED
+        status = TIMED_OUT if step.status == LIMIT else exit_code(self.log.path) or 0 if step.status == DONE else FAULTED
         if status:
             streams.show("".join(line + "\n" for line in brief_of(self.log.name, self.elf)))
             streams.say(f"`zelkuma why {self.log.name} {self.elf}` tells more")
         return status
-
-
-def exit_status(log: str) -> int:
-    """What a program that ended well ended with, as Linux tells it: the code of exit_group, else that of hart 0."""
-    source = open_log(log)
-    try:
-        ends = source.end(1).ends
-    finally:
-        source.close()
-    group = [end for end in ends.values() if end.reason == "group"]
-    return (group or [ends[min(ends)]])[0].value & 255 if ends else 0
 
 
 def main(words: list[str]) -> int:

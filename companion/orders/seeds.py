@@ -6,7 +6,7 @@ import os
 from typing import Mapping, Optional, Sequence
 
 from ..call import streams
-from ..call.errors import NO_INTERVAL, REFUSED, CompanionError
+from ..call.errors import FOUND, NO_INTERVAL, NOT_FOUND, REFUSED, CompanionError
 from ..call.kinds import LOG, TURNS
 from ..call.options import read_words, whole
 from ..call.saving import Target, target
@@ -15,12 +15,13 @@ from ..recording.answers import LONGEST, put_answer
 from ..recording.elf import Elf
 from ..questions.compare import compared
 from .again import settings_of
-from .record import ENDS, FAULT, LIMIT, Kind, Plan, RecordWords
+from .record import FAULT, Kind, Plan, RecordWords
 from .shrinking import ShrinkInput, Shrunk, shrink
 from .trials import MOST_KEPT, Count, Ending, Numbers, TrialSearch
+from .wanted import Wanted, wanted_of
 
-HELP = """zelkuma seeds [-j N] [--until STATUS] [--only KIND,..] [--all DIR] [--part K/N] [--shrink] [--compare] [--json] FROM TO
-              -- RECORD-WORDS
+HELP = """zelkuma seeds [-j N] [--until END] [--only KIND,..] [--all DIR] [--part K/N] [--shrink] [--compare] [--json] [--fail]
+              FROM TO -- RECORD-WORDS
 
 Records a program by one order of turns after another, on all processors, until a run ends as wanted.
 
@@ -33,21 +34,23 @@ RECORD-WORDS are those of `record` but for --seed. Of each number from FROM to T
     sleepers         one hart takes no turn for a while
     threads          no number draws them: the harts run side by side
 
-LOG and BOOK are those of the first run that ends with STATUS; if a number draws its turns, no lower one does.
+LOG and BOOK are those of the first run that ends as END says; if a number draws its turns, no lower one does.
 Its kind and number are printed, and the command that makes it again. A table tells how the runs up to it ended: status,
 count, the first of them, and of a fault the line of `bucket`. If none ends so, nothing is saved, and the status is 22.
 Ctrl-C (or TERM, HUP) ends the search: the table is printed, what was found is kept, and the status is 130 (143, 129).
 
     -j N             so many recordings at a time; without it, as many as there are processors
-    --until STATUS   0 (done), 10 (a fault) or 11 (a hart came to the limit); without it 10
-    --only KIND,..   these kinds alone. Without it runs in threads are left out with --all, and for status 11, since a slow
-                     run isn't a hang
+    --until END      10 (a fault), which it is without it; 11 (a hart came to the limit), 0 (done), exit:N (done, with this exit code),
+                     output:TEXT (the program wrote this), or bad (10, 11, or an exit code but 0)
+    --only KIND,..   these kinds alone. Without it runs in threads are left out with --all, and for 11 and bad, since a slow
+                     run isn't a hang; that is said
     --all DIR        makes all runs, and saves LOG and BOOK of the first with each ending in DIR, as KIND-NUMBER.log and .book;
                      an ending is a line of the table. RECORD-WORDS end with ELF then
     --part K/N       every Nth number alone, from the Kth on: the parts 1/N to N/N together are all numbers
     --shrink         does what `zelkuma shrink` does with what was found: LOG and BOOK are those of the short run
     --compare        does that, moves one switch of the short run as far as it takes for a run that ends well, saves that as
                      LOG.good and BOOK.good, and does what `zelkuma compare` does with both
+    --fail           for a gate: the status is 23 if a run is found, or with --all one that ended badly, and else 0
     --json           prints one JSON object in place of the text (docs/JSON.md)
 
 One recording in threads is under way at a time, and the others wait for it. One that spins on a busy machine takes long:
@@ -58,10 +61,9 @@ Over machines, each of which has a part; `triage` joins what they found:
 
     parallel --sshloginfile MACHINES zelkuma seeds --all found/{} --part {}/8 1 1000 -- program.elf ::: 1 2 3 4 5 6 7 8
     zelkuma triage found --elfs ."""
-FORM = "seeds [-j N] [--until STATUS] [--only KIND,..] [--all DIR] [--part K/N] [--shrink] [--compare] [--json] FROM TO -- RECORD-WORDS"
+FORM = "seeds [-j N] [--until END] [--only KIND,..] [--all DIR] [--part K/N] [--shrink] [--compare] [--json] [--fail] FROM TO -- RECORD-WORDS"
 KINDS = {"seeds": Kind.SEED, "bursts": Kind.BURSTS, "sleepers": Kind.SLEEPER, "threads": Kind.THREADS}
 HEAD = "status", "count", "first", "place"
-NOT_FOUND = 22
 LAST_NUMBER = 2**64 - 1
 
 
@@ -72,10 +74,10 @@ def split(words: list[str]) -> tuple[list[str], list[str]]:
     return own, words[at + 1:]
 
 
-def kinds_of(options: Mapping[str, str], is_lean: bool, until: Optional[int]) -> list[Kind]:
+def kinds_of(options: Mapping[str, str], is_lean: bool, wanted: Optional[Wanted]) -> list[Kind]:
     """The kinds of turns, in order. Turns of threads can be taken again only from BOOK; a slow run in threads comes to its
     limit without a hang; and parts that make all runs are to give what the whole gives."""
-    leaves_out = is_lean or until in (None, LIMIT)
+    leaves_out = is_lean or wanted is None or wanted.has_slow_runs
     words = options["--only"].split(",") if "--only" in options else [name for name in KINDS if name != "threads" or not leaves_out]
     for word in words:
         if word not in KINDS:
@@ -96,10 +98,18 @@ def table(counts: Mapping[Ending, Count]) -> str:
     return "".join("  ".join([cell.ljust(width) for cell, width in zip(row, widths)] + [row[3]]) + "\n" for row in rows)
 
 
+def said_end(search: TrialSearch) -> str:
+    """How the run ended that was found."""
+    assert search.wanted and search.found
+    if not search.wanted.is_bad:
+        return search.wanted.said()
+    return f"exit:{search.found.code}" if search.found.code else f"status {search.found.status}"
+
+
 def tell(search: TrialSearch) -> None:
     text, found = "", search.found
     if found is not None:
-        text = f"{found.plan}: status {search.until}\n{search.words.shown(found.plan)}\n"
+        text = f"{found.plan}: {said_end(search)}\n{search.words.shown(found.plan)}\n"
     if search.endings.counts:
         text += table(search.endings.counts)
     streams.put(text)
@@ -145,7 +155,9 @@ def tell_json(search: TrialSearch, short: Optional[Shrunk], difference: Optional
                 "files": list(filter(os.path.exists, search.words.outputs_of(count.first))) if ending in search.kept else []}
                for ending, count in in_order(counts)]
     put_answer("seeds", **fields_of(plan), seed=plan.number if plan and plan.kind is Kind.SEED else None,
-               command=search.words.shown(plan) if plan else None, status=search.until,
+               command=search.words.shown(plan) if plan else None, until=search.wanted.text if search.wanted else None,
+               status=search.wanted.statuses[0] if search.wanted and len(search.wanted.statuses) == 1 else None,
+               kinds=[name for name, kind in KINDS.items() if kind in search.kinds],
                **{"from": numbers.first}, to=numbers.last, part=numbers.part, parts=numbers.parts,
                tried=sum(count.count for count in counts.values()), endings=endings[:LONGEST],
                shrunk=short.answer if short else None, compared=difference)
@@ -175,18 +187,18 @@ def find(search: TrialSearch, is_json: bool, shrinks: bool, good: Sequence[Targe
     return short.status if short else 0
 
 
-def status_of(search: TrialSearch, names: Sequence[str]) -> int:
+def status_of(search: TrialSearch, names: Sequence[str], fails: bool) -> int:
     if search.stopped:
         return 128 + search.stopped
     if search.found is not None:
-        return 0
-    if search.until is None:
+        return FOUND if fails else 0
+    if search.wanted is None:
         more = len(search.endings.counts) - len(search.kept)
         if more:
             streams.say(f"of {number(more)} endings nothing is kept: {number(MOST_KEPT)} others came before them")
-        return 0
-    streams.say(f"none of {', '.join(names)} from {search.numbers} ends with status {search.until}")
-    return NOT_FOUND
+        return FOUND if fails and any(ending.is_bad for ending in search.endings.counts) else 0
+    streams.say(f"none of {', '.join(names)} from {search.numbers} ends with {search.wanted.said()}")
+    return 0 if fails else NOT_FOUND
 
 
 def numbers_of(low: str, high: str, part: str) -> Numbers:
@@ -200,24 +212,21 @@ def numbers_of(low: str, high: str, part: str) -> Numbers:
     return Numbers(first, last, whole(at, 1, parts, "the K of --part"), parts)
 
 
-def until_of(options: Mapping[str, str]) -> Optional[int]:
-    """The status that ends the search, or None if all are wanted."""
+def until_of(options: Mapping[str, str]) -> Optional[Wanted]:
+    """What ends the search, or None if all are wanted."""
     if "--all" in options:
         if "--until" in options:
             raise CompanionError("with --all no status ends the search, so --until can't be given", REFUSED)
         return None
-    until = whole(options.get("--until", str(FAULT)), 0, max(ENDS), "--until")
-    if until not in ENDS:
-        raise CompanionError(f"--until has to be one of {', '.join(map(str, ENDS))}", REFUSED)
-    return until
+    return wanted_of(options.get("--until", str(FAULT)))
 
 
-def check_shrinks(asked: str, record: RecordWords, until: Optional[int]) -> None:
+def check_shrinks(asked: str, record: RecordWords, wanted: Optional[Wanted]) -> None:
     """Refuses what can't be shrunk, before a run is made: `asked` is the option that asks for it."""
     if record.is_lean:
         raise CompanionError(f"{asked} needs BOOK, and with --lean there is none", REFUSED)
-    if until not in (FAULT, LIMIT):
-        raise CompanionError(f"{asked} needs one run with a fault or a hang: not --all or --until 0", REFUSED)
+    if wanted is None or wanted.output or wanted.text in ("0", "exit:0"):
+        raise CompanionError(f"{asked} needs one run with a fault, a hang or an exit code: not --all, --until 0 or --until output:TEXT", REFUSED)
     if record.has_one_hart:
         raise CompanionError(f"one hart has one order, so {asked} has nothing to shrink: --harts isn't given, or is 1", REFUSED)
 
@@ -227,18 +236,20 @@ def main(words: list[str]) -> int:
     if "--" not in words:
         raise CompanionError(f"the options of record stand behind --, with ELF LOG BOOK; the words are: {FORM}", REFUSED)
     (low, high), options = read_words(own, FORM, "--jobs")
-    numbers, until = numbers_of(low, high, options.get("--part", "1/1")), until_of(options)
+    numbers, wanted = numbers_of(low, high, options.get("--part", "1/1")), until_of(options)
     record = RecordWords(rest, options.get("--all", ""))
     shrinks = "--compare" if "--compare" in options else "--shrink" if "--shrink" in options else ""
     if shrinks:
-        check_shrinks(shrinks, record, until)
+        check_shrinks(shrinks, record, wanted)
     good = goods_of(record) if "--compare" in options else []
-    kinds = kinds_of(options, record.is_lean, until)
+    kinds = kinds_of(options, record.is_lean, wanted)
     processors = 1 if kinds == [Kind.THREADS] else len(os.sched_getaffinity(0))
     jobs = whole(options["--jobs"], 1, 1024, "-j") if "--jobs" in options else processors
+    if not (Kind.THREADS in kinds or "--only" in options or record.has_one_hart):
+        streams.say("runs in threads aren't tried; --only threads tries them")
     if record.folder:
         os.makedirs(record.folder, exist_ok=True)
     with contextlib.ExitStack() as opened:
-        search = TrialSearch(record, numbers, kinds, until, jobs, [opened.enter_context(folder) for folder in record.scratch()])
+        search = TrialSearch(record, numbers, kinds, wanted, jobs, [opened.enter_context(folder) for folder in record.scratch()])
         stopped = find(search, "--json" in options, bool(shrinks), good)
-    return stopped or status_of(search, [name for name, kind in KINDS.items() if kind in kinds])
+    return stopped or status_of(search, [name for name, kind in KINDS.items() if kind in kinds], "--fail" in options)

@@ -16,9 +16,10 @@ from ..call.saving import take_together
 from ..recording.cause import Cause, cause_of_file
 from ..recording.elf import Elf
 from ..recording.places import Places
-from ..recording.recent import LogFile
+from ..recording.recent import LogFile, exit_code
 from ..triage.bucket import bucket_of
-from .record import ENDS, FAULT, Kind, Plan, Quick, RecordWords, last_line, refusal
+from .record import DONE, ENDS, FAULT, Kind, Plan, Quick, RecordWords, last_line, refusal
+from .wanted import Wanted
 
 NO_PLACE = "-"
 MOST_KEPT = 1000            # endings of which one recording each is kept
@@ -40,9 +41,13 @@ class Numbers(NamedTuple):
 
 
 class Ending(NamedTuple):
-    """How a trial ended: its status, and of a fault the place, as `bucket` tells it."""
+    """How a trial ended: its status, and of a fault the place, as `bucket` tells it, or of an exit its code, if that isn't 0."""
     status: int
     place: str
+
+    @property
+    def is_bad(self) -> bool:
+        return self.status != DONE or self.place != NO_PLACE
 
 
 @dataclass
@@ -74,14 +79,17 @@ class Endings:
 class Trial:
     """A recording, under way or done, and then of a fault the search for its cause.
 
-    status  that of the recording, once it is done"""
+    status  that of the recording, once it is done; code: the exit code of one that ended well
+    out     what the program wrote, if that is kept; err: what it wrote there, and the summary"""
 
-    def __init__(self, words: RecordWords, plan: Plan, folders: Sequence[str], quick: Quick) -> None:
+    def __init__(self, words: RecordWords, plan: Plan, folders: Sequence[str], quick: Quick, keeps_out: bool) -> None:
         self.plan, self.words, self.status = plan, words, -1
+        self.code: Optional[int] = None
         name = str(plan).replace(" ", "-")
         self.outputs = [os.path.join(folder, f"{name}.{number}") for number, folder in enumerate(folders)]
         self.said, self.err = self.outputs[0] + ".said", self.outputs[0] + ".err"
-        self.child: Process = quick.start(os.devnull, self.err, *words.command(plan, self.outputs), schedule=plan.schedule())
+        self.out = self.outputs[0] + ".out" if keeps_out else os.devnull
+        self.child: Process = quick.start(self.out, self.err, *words.command(plan, self.outputs), schedule=plan.schedule())
 
     def find_cause(self) -> str:
         with closing(LogFile(self.outputs[0])) as source:
@@ -92,8 +100,19 @@ class Trial:
         line = last_line(self.said) if os.path.exists(self.said) else ""
         return Cause.of(line) if line else None
 
+    def end(self, status: int) -> None:
+        """The recording is done."""
+        self.status, self.code = status, exit_code(self.outputs[0]) if status == DONE else None
+
+    def wrote(self) -> bytes:
+        """What the program wrote to out, and to err."""
+        if self.out == os.devnull:
+            return b""
+        out, err = (Path(name).read_bytes() for name in (self.out, self.err))
+        return out + b"\0" + err.rpartition(b"bugnet: ")[0]
+
     def remove(self) -> None:
-        for name in self.outputs + [self.said, self.err]:
+        for name in self.outputs + [self.said, self.err] + [self.out] * (self.out != os.devnull):
             Path(name).unlink(missing_ok=True)
 
     def save(self) -> None:
@@ -125,15 +144,15 @@ class TrialSearch:
     """Trials in order; those above the lowest that was found are given up. Recordings in threads need a processor a hart, so
     only one is under way, and the others wait for it. They don't repeat, so the first that ends as wanted ends the search.
 
-    until    the status that is searched for; None keeps one of each ending
+    wanted   what is searched for; None keeps one of each ending
     waiting  plans in threads whose turn came while another was under way
     found    the trial that is kept
     kept     those of each ending
     stopped  the signal that ends it, if one came"""
 
-    def __init__(self, words: RecordWords, numbers: Numbers, kinds: Sequence[Kind], until: Optional[int], jobs: int,
+    def __init__(self, words: RecordWords, numbers: Numbers, kinds: Sequence[Kind], wanted: Optional[Wanted], jobs: int,
                  folders: Sequence[str]) -> None:
-        self.words, self.numbers, self.kinds, self.until = words, numbers, kinds, until
+        self.words, self.numbers, self.kinds, self.wanted = words, numbers, kinds, wanted
         self.jobs, self.folders = jobs, folders
         self.running: dict[int, Trial] = {}     # by process
         self.found: Optional[Trial] = None
@@ -183,7 +202,7 @@ class TrialSearch:
             plan = self.next_plan()
             if plan is None:
                 return
-            self.watch(Trial(self.words, plan, self.folders, self.quick))
+            self.watch(Trial(self.words, plan, self.folders, self.quick, bool(self.wanted and self.wanted.output)))
 
     def keep(self, trial: Trial) -> None:
         if self.found is not None:
@@ -203,7 +222,7 @@ class TrialSearch:
             cause = trial.cause()
             self.end(trial, self.buckets.line(cause) if cause else NO_PLACE)
         elif status in ENDS:
-            trial.status = status
+            trial.end(status)
             self.recorded(trial)
         elif self.stopped:
             trial.remove()
@@ -211,18 +230,18 @@ class TrialSearch:
             raise refusal(trial.err, status, f"the recording of {trial.plan}")
 
     def recorded(self, trial: Trial) -> None:
-        if trial.status == self.until:
+        if self.wanted and self.wanted.is_met(trial.status, trial.code, trial.wrote()):
             self.keep(trial)
         if trial.status == FAULT:
             trial.child = Forked(trial.find_cause, trial.said, trial.err)
             self.watch(trial)
         else:
-            self.end(trial, NO_PLACE)
+            self.end(trial, f"exit {trial.code}" if trial.code else NO_PLACE)
 
     def end(self, trial: Trial, place: str) -> None:
         ending = Ending(trial.status, place)
         self.endings.add(trial.plan, ending)
-        if self.until is None:
+        if self.wanted is None:
             first = self.kept.get(ending)
             if first and trial.plan < first.plan or not first and len(self.kept) < MOST_KEPT:
                 self.kept[ending], trial = trial, first or trial

@@ -86,6 +86,19 @@ class LogFile:
         return log
 
 
+def exit_code(name: str) -> Optional[int]:
+    """What a program that ended well ended with, as Linux tells it: the code of exit_group, else that of hart 0. None if the log,
+    which isn't checked, doesn't say it."""
+    try:
+        with open(name, "rb") as file, mmap.mmap(file.fileno(), 0, access=mmap.ACCESS_READ) as data:
+            is_old = struct.unpack_from("<I", data, 8)[0] == VERSION_1
+            ends = Log(name, data[:]).ends if is_old else LastRecords(data, 1, None).last
+    except (CompanionError, OSError, ValueError, IndexError, KeyError, struct.error):
+        return None
+    codes = [end.value for end in ends.values() if end.reason == "group"] + [ends[hart].value for hart in (0,) if hart in ends]
+    return codes[0] & 255 if codes else None
+
+
 def open_log(name: str) -> LogFile:
     """A log that the program has checked."""
     with streams.working("the log is checked"):

@@ -7,7 +7,7 @@ from contextlib import closing
 from typing import Mapping, Sequence
 
 from ..call import streams
-from ..call.errors import MISSING, CompanionError
+from ..call.errors import FOUND, MISSING, CompanionError
 from ..call.options import read_words
 from ..call.page import Part, page
 from ..call.kinds import PAGE
@@ -23,7 +23,7 @@ from .work import MOST_BYTES, MOST_SECONDS, READ, UNREAD, WHY_SECONDS, Answer, T
 MOST_SUSPECTS = 20
 HELP = f"""Sorts many logs by the cause of their end.
 
-    zelkuma triage DIR.. --elfs DIR [--json FILE] [--junit FILE] [--html FILE]
+    zelkuma triage DIR.. --elfs DIR [--json FILE] [--junit FILE] [--html FILE] [--fail]
 
 It reads all logs below each DIR, on all processors. Of each cause it prints the line of `bucket`, how many logs have it, the
 first and the last by their files' dates, how many harts they have, the first memory error, the best suspect of `why`, and the
@@ -34,13 +34,14 @@ command that says more of one of them.
 --json   saves the table for other programs (docs/JSON.md)
 --junit  saves it as JUnit's XML: a cause is a test, and one that is no exit has failed
 --html   saves it as a page
+--fail   the status is 23 if a run ended otherwise than by exit code 0, or a log couldn't be read
 
 Runs that ended well are counted, and are no cause. A damaged log is salvaged into a temporary place; its own file stays
 as it is. A log takes at most {MOST_SECONDS} s of processor time, a suspect {WHY_SECONDS} s, and either {MOST_BYTES >> 20} MB: what else the machine
 does changes nothing. Logs that can't be read are counted by the reason, as are those whose program isn't there. Of a large
 log the last million rows are read. Of the {MOST_SUSPECTS} most frequent causes the suspect is told.
 Companions show; the program proves."""
-FORM = "triage DIR.. --elfs DIR [--json FILE] [--junit FILE] [--html FILE]"
+FORM = "triage DIR.. --elfs DIR [--json FILE] [--junit FILE] [--html FILE] [--fail]"
 KINDS = {"--json": JSON, "--junit": JUNIT, "--html": PAGE}
 
 
@@ -128,4 +129,4 @@ def main(words: list[str]) -> int:
     streams.put_lines(line for part in parts for line in [""] * bool(part.heading) + part.text())
     if logs.are_more:
         streams.say(f"only {number(MOST_LOGS)} logs were read, and there are more")
-    return 0
+    return FOUND if "--fail" in given and (table.sorted() or table.unread) else 0

@@ -1,9 +1,11 @@
 """zelkuma race: groups, their order, fences, and what is refused."""
+import json
 import re
 
 import case
 import common
 
+from companion.call.errors import FOUND
 from companion.recording import fences, races
 
 LOAD, STORE, ADD, BRANCH = 0x0007a703, 0x00e7a023, 0x00000013, 0xfef6fce3       # lw, sw, addi, bgeu
@@ -51,6 +53,51 @@ class RaceTest(case.Case):
         rows = re.findall(r"^        (\d+ \d+ [0-9a-f]{8} .*)$", text, re.M)
         self.assertGreater(len(rows), 6)
         self.assertEqual([row for row in rows if row not in exact], [])
+
+    def groups(self, *more):
+        """The groups of `tills` as JSON, and the status with --fail."""
+        words = "race", self.tills(), self.elf("tills"), "--names", self.names("tills"), *more
+        status, said, err = common.companion(*words, "--json", "--fail")
+        self.assertEqual(err, "")
+        return json.loads(said), status
+
+    def test_what_a_file_names_is_left_out(self):
+        """As a plain reading of the groups' words and places has it."""
+        def has(group, *lines):
+            found = [group[access]["place"] for access in ("one", "other")]
+            told = [f"{place['file']}:{place['line']}" for place in found] + [place["function"] for place in found]
+            return all(line in told for line in lines)
+
+        every, status = self.groups()
+        self.assertEqual((status, every["ignored"]), (FOUND, 0))
+        for line, fits in (("shelf", lambda group: group["name"].startswith("shelf")),
+                           ("shelf[199]", lambda group: group["name"].startswith("shelf[199]")),
+                           ("0001159c  # the last place", lambda group: "0001159c" in group["words"]),
+                           ("tills.c:38", lambda group: has(group, "tills.c:38")),
+                           ("tills.c:3* and tills.c:38", lambda group: has(group, "tills.c:38") and all(
+                               30 <= group[access]["place"]["line"] < 40 for access in ("one", "other"))),
+                           ("sell", lambda group: has(group, "sell")), ("# sell", lambda group: False)):
+            left, _ = self.groups("--ignore", common.written(common.path("ignored"), line.encode() + b"\n"))
+            wanted = [word for group in every["groups"] if not fits(group) for word in group["words"]]
+            self.assertEqual([word for group in left["groups"] for word in group["words"]], wanted, line)
+            self.assertTrue(line[0] == "#" or len(wanted) < sum(len(group["words"]) for group in every["groups"]), line)
+        left, status = self.groups("--ignore", common.written(common.path("ignored"), b"*\n"))
+        self.assertEqual((status, left["groups"], left["ignored"] > 5), (0, [], True))
+        told = common.companion("race", self.tills(), self.elf("tills"), "--ignore", common.path("ignored"))[1]
+        self.assertRegex(told, r"\nleft out: \d+ groups that --ignore names\n\Z")
+
+    def test_fail_is_of_races_that_no_fences_order(self):
+        fenced = common.written(common.path("fenced"), b"sell\ntills.c:3*\n")
+        left, status = self.groups("--ignore", fenced)
+        self.assertEqual({group["kind"] for group in left["groups"]} - {"fenced", "ordered by fences"}, {""} if status else set())
+        log = self.record("heap", "--seed", "1")
+        self.assertEqual(common.companion("race", log, self.elf("heap"), "--fail")[0], 0)
+
+    def test_a_bad_file_of_races_is_refused(self):
+        for text, words in ((b"a and b and c\n", ":1: a line of --ignore"), (b"ok\n" + b"x" * 300, ":2: a line"), (b"x\n" * 10001, "at most 10000 lines")):
+            name = common.written(common.path("ignored"), text)
+            self.assertIn(words, self.refuses(2, "race", self.tills(), self.elf("tills"), "--ignore", name))
+        self.assertIn("missing", self.refuses(4, "race", self.tills(), self.elf("tills"), "--ignore", common.path("nowhere")))
 
     def test_without_names_places_are_addresses(self):
         text = self.says("race", self.tills(), self.elf("tills"))

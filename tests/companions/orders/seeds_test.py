@@ -12,11 +12,11 @@ import time
 
 import cases
 from common import COMPANION, EXAMPLES, PROGRAM, content
-from recordings import elf_of
+from recordings import A0, A1, A2, A7, DATA, ECALL, EXIT, T0, addi, branch_unless_equal, elf_of, load, lui, store
 
 SEEDS = [sys.executable, COMPANION, "seeds"]
 HAND_OVER, BUFFERS, TWO_LOCKS = (os.path.join(EXAMPLES, name + ".elf") for name in ("hand_over", "buffers", "two_locks"))
-CRASHES, SLEEPER, NOT_FOUND = 3, 20, 22     # the lowest seed by which hand_over crashes, sleeper by which buffers does; none
+CRASHES, SLEEPER, NOT_FOUND, FOUND = 3, 20, 22, 23     # the lowest seed by which hand_over crashes, sleeper by which buffers does
 HEAD = "status  count  first"
 FOUR = ["--format=2", "--harts=4", "--limit=1000000"]
 
@@ -86,6 +86,72 @@ def case_other_ends(recordings):
     done = seeds(*only, "--until=0", "8", "9", *words)
     assert first_line(done) == (0, "seed 9: status 0")
     assert rows(done[1]) == [["0", "1", "seed 9", "-"], ["11", "1", "seed 8", "-"]], done
+
+
+def ends_of(recordings, elf, most):
+    """{seed: (exit code, what was written)}, as `record` and `list` tell them."""
+    found = {}
+    for seed in range(1, most + 1):
+        log = recordings.path("plain.log")
+        done = subprocess.run([PROGRAM, "record", "--harts=2", f"--seed={seed}", elf, log, recordings.path("plain.book")],
+                              stdout=subprocess.PIPE, stderr=subprocess.DEVNULL, check=False)
+        ends = subprocess.run([PROGRAM, "list", log], stdout=subprocess.PIPE, check=True).stdout.decode()
+        found[seed] = int(re.search(r" group (\w+)", ends)[1], 16), done.stdout
+    return found
+
+
+def case_exit_codes_and_outputs(recordings):
+    """Hart 1 stores a letter that hart 0 loads, writes, and ends with: which one it is depends on the turns."""
+    elf = recordings.write("letter.elf", elf_of([
+        branch_unless_equal(A0, 0, 40), lui(A1, DATA), load(T0, A1, kind=4), addi(A0, 0, 1), addi(A2, 0, 1), addi(A7, 0, 64), ECALL,
+        addi(A0, T0, 0), addi(A7, 0, 94), ECALL, lui(A1, DATA), addi(T0, 0, ord("y")), store(T0, A1, kind=0), *EXIT], b"n"))
+    folder, plain = Folder(recordings, "codes"), ends_of(recordings, elf, 30)
+    words = ["1", "30", "--", "--harts=2", elf, folder.log, folder.book]
+    for until, fits in (("exit:121", lambda end: end[0] == 121), ("exit:110", lambda end: end[0] == 110),
+                        ("output:y", lambda end: end[1] == b"y"), ("output:n", lambda end: end[1] == b"n")):
+        first = next(seed for seed, end in plain.items() if fits(end))
+        said = seeds("--only", "seeds", "--until", until, *words)
+        assert first_line(said) == (0, f"seed {first}: {until}"), (said, plain)
+        assert again(said[1]) == 0
+    assert first_line(seeds("--only", "seeds", "--until", "bad", *words)) == (0, f"seed 1: exit:{plain[1][0]}")
+    done = seeds("--only", "seeds", "--all", folder.path, *words[:-2])
+    assert sorted(row[3] for row in rows(done[1])) == ["exit 110", "exit 121"], done
+    counts = {row[3]: int(row[1]) for row in rows(done[1])}
+    assert counts == {f"exit {code}": [end[0] for end in plain.values()].count(code) for code in (110, 121)}, (counts, plain)
+    done = seeds("--only", "seeds", "--until", "exit:3", *words)
+    assert done[0] == NOT_FOUND and done[2] == "zelkuma: none of seeds from 1 to 30 ends with exit:3\n", done
+    assert seeds("--only", "seeds", "--all", folder.path, "--fail", *words[:-2])[0] == FOUND
+
+
+def case_bad_ends(recordings):
+    folder = Folder(recordings, "bad")
+    words = ["--", "--harts=2", "--limit", "20000", TWO_LOCKS, folder.log, folder.book]
+    assert first_line(seeds("--only", "seeds", "--until", "bad", "5", "9", *words)) == (0, "seed 8: status 11")
+    words[-3:] = HAND_OVER, folder.log, folder.book
+    assert first_line(seeds("--only", "seeds", "--until", "bad", "1", "9", *words)) == (0, f"seed {CRASHES}: status 10")
+    assert json_of("--only", "seeds", "--until", "bad", "1", "9", *words)["until"] == "bad"
+
+
+def case_a_gate(recordings):
+    """With --fail it is no success that a run is found, and one that none is."""
+    folder = Folder(recordings, "gate")
+    words = ["--", "--harts", "2", HAND_OVER, folder.log, folder.book]
+    only = "--fail", "--only", "seeds"
+    assert first_line(seeds(*only, "1", "9", *words)) == (FOUND, f"seed {CRASHES}: status 10")
+    assert seeds(*only, "1", "2", *words)[0] == 0
+    assert seeds(*only, "--all", folder.path, "1", "2", *words[:-2])[0] == 0
+    assert seeds(*only, "--all", folder.path, "1", "3", *words[:-2])[0] == FOUND
+
+
+def case_whether_threads_are_tried_is_told(recordings):
+    folder = Folder(recordings, "told")
+    said = "zelkuma: runs in threads aren't tried; --only threads tries them\n"
+    words = ["1", "1", "--", "--harts=2", "--limit=20K", TWO_LOCKS, folder.log, folder.book]
+    for more, is_said in (([], False), (["--until", "11"], True), (["--until", "bad"], True), (["--only", "seeds"], False)):
+        assert (said in seeds(*more, *words)[2]) == is_said, more
+    assert said in seeds("--all", folder.path, *words[:-2])[2]
+    assert said not in seeds("--all", folder.path, "1", "1", "--", "--limit=20K", TWO_LOCKS)[2]
+    assert json_of("--all", folder.path, *words[:-2])["kinds"] == ["seeds", "bursts", "sleepers"]
 
 
 def case_none_is_found(recordings):

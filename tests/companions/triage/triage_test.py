@@ -14,6 +14,7 @@ import common
 import forged
 from recordings import A0, EXIT, addi, elf_of
 from common import COMPANION, CRASHES, PROGRAM, TOP, companion, content, path, written
+from companion.call.errors import FOUND
 from companion.triage import pool as triage_pool, work as triage_work
 
 USED, FREED, LARGE = "use_after_free", "double_free", "libc_scale"      # the log of the last has several blocks
@@ -176,6 +177,19 @@ class TriageTest(case.Case):
         self.assertEqual([(one["reason"], one["suspect"]) for one in answer["buckets"]], [("exit", "")])
         self.assertEqual((answer["good"], said.split("\n")[0]), (1, "2 logs: 1 cause, 1 ended well"))
         self.assertEqual(xml.etree.ElementTree.fromstring(content(path("exits/junit"))).get("failures"), "0")
+
+    def test_a_gate(self):
+        """With --fail no run that ended badly is a success, nor is a log that can't be read."""
+        fleet = Fleet("gate")
+        fleet.add("well", common.record("gate", fleet.elf("wrong_total"), "--seed", "1"))
+        fleet.answer("--fail")
+        lost = fleet.add("lost", b"BUGNETLG")
+        fleet.answer("--fail", status=FOUND)
+        fleet.answer()
+        os.remove(lost)
+        fails = written(os.path.join(fleet.elfs, "fails.elf"), elf_of([addi(A0, 0, 3), *EXIT]))
+        fleet.add("exit", common.record("exit3", fails, "--seed", "1"))
+        fleet.answer("--fail", status=FOUND)
 
     def test_the_cache(self):
         """Digests are remembered; a cache that is gone, broken or can't be saved changes nothing."""
