@@ -1,6 +1,7 @@
 """Memory that a function asks for on its stack while it runs: by alloca, or for an array of no constant length.
 
-GCC adds 15 to the size, and 8 more for alloca, rounds it down to 16 and takes it from sp. So the size is known to the byte."""
+GCC adds 15 to the size, rounds it down to 16 and takes it from sp. For alloca, and for an array that has to be aligned, it adds 8 less
+than the alignment before, and rounds the pointer up. So the size is known to the byte."""
 from __future__ import annotations
 
 from typing import Callable, Optional, Tuple
@@ -10,8 +11,8 @@ from .operation import ALU, Operation
 from .state import Asked, Hart, count_of, value_of
 
 ROUNDED = 16                # bytes: sp is a multiple of it
-ADDED, ADDED_MORE = 15, 23  # to a size, to one of alloca
-SPARE = ADDED_MORE - ADDED
+ADDED = ROUNDED - 1         # to a size
+SPARED = 8                  # of an alignment: sp is a multiple of it for certain
 REACH = 16                  # instructions between the sum and the use of its result
 
 
@@ -47,12 +48,17 @@ def sum_of_size(facts: Facts, one: Operation) -> Optional[Operation]:
     """The sum of the size and what is added to it, for an instruction that takes the result from sp."""
     rounded = aligned_from(facts, writer(facts, one.pc, one.rs2), 4)
     found = writer(facts, *rounded) if rounded else None
-    return found if found is not None and found.name == "addi" and found.imm in (ADDED, ADDED_MORE) else None
+    return found if found is not None and is_sum(found) else None
+
+
+def is_sum(one: Operation) -> bool:
+    alignment = one.imm - ADDED + SPARED
+    return one.name == "addi" and (one.imm == ADDED or alignment >= ROUNDED and alignment & alignment - 1 == 0)
 
 
 def becomes_size(facts: Facts, one: Operation) -> bool:
     """Whether a sum is the one of a size."""
-    if one.name != "addi" or one.imm not in (ADDED, ADDED_MORE):
+    if not is_sum(one):
         return False
     following = (facts.operations.get(pc) for pc in range(one.pc + 4, one.pc + 3 * 4 * REACH, 4))
     takes = next((each for each in following if each and each.takes_memory), None)
@@ -77,10 +83,18 @@ def size_asked(facts: Facts, one: Operation) -> Optional[Callable[[Hart, bytes],
 
 
 def pointer_to(facts: Facts, one: Operation) -> Tuple[int, int]:
-    """How far behind sp the memory begins to which an instruction makes a pointer, and which of its bytes are spare: alloca's pointer
-    is rounded up, whatever sp is."""
-    following = facts.operations.get(one.pc + 4)
-    if one.imm % ROUNDED == ADDED:
-        return one.imm - ADDED, SPARE
-    rounds = following is not None and following.name == "addi" and following.rs1 == one.rd and following.imm == ADDED
-    return one.imm, SPARE * rounds
+    """How far behind sp the memory begins to which an instruction makes a pointer, before that is rounded up; and to which multiple
+    it is."""
+    added, register = one.imm, one.rd
+    for pc in range(one.pc + 4, one.pc + 4 * REACH, 4):
+        following = facts.operations.get(pc)
+        if following is None or following.is_jump:
+            break
+        bits = following.imm if following.name == "srli" else (-following.imm).bit_length() - 1 if following.name == "andi" else 0
+        if following.rs1 == register and following.name == "addi" and following.rd == register:
+            added += following.imm
+        elif following.rs1 == register and bits > 1 and (following.name == "srli" or following.imm == -1 << bits):
+            return added - (1 << bits) + 1, 1 << bits
+        elif following.rd == register:
+            break
+    return one.imm, 1

@@ -4,7 +4,7 @@ from __future__ import annotations
 from typing import Callable, Optional
 
 from .checks import Checks
-from .dynamic import becomes_size, is_aligned_down, pointer_to, size_asked
+from .dynamic import ROUNDED, SPARED, becomes_size, is_aligned_down, pointer_to, size_asked
 from .operation import SP, Operation
 from .parts import local_name
 from .stacks import is_frame_move
@@ -98,8 +98,9 @@ class Sums:
     def to_asked(self, one: Operation) -> Act:
         """A pointer to memory that the function asked for on its stack (dynamic.py)."""
         hart, keep, copy = self.hart, self.checks.stacks.keep, self.copying(one)
-        offset, spare = pointer_to(self.checks.facts, one)
-        if offset % 16:
+        offset, alignment = pointer_to(self.checks.facts, one)
+        spare = alignment - SPARED if alignment >= ROUNDED else 0
+        if offset % ROUNDED:
             return copy
         self.checks.judge.made.add(one.pc)
         name = f"an alloca or array of {self.checks.facts.program.function_of(one.pc)}"
@@ -108,7 +109,7 @@ class Sums:
             copy(row)
             asked = hart.asked
             if asked is not None and asked.sp == hart.sp and asked.size > spare:
-                begin = hart.sp + offset
+                begin = hart.sp + offset + alignment - 1 & -alignment
                 if asked.thing is None or asked.thing.end != begin + asked.size - spare:
                     asked.thing = Thing(begin, begin + asked.size - spare, FRAME, name)
                     keep(hart, asked.thing)

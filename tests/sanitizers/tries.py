@@ -1,8 +1,8 @@
-"""Builds each test, records it, and holds what `memory` tells against what the test says: tries.py FOLDER [gcc | memcheck | fresh].
+"""Builds each test, records it, and holds what `memory` tells against what the test says: tries.py FOLDER [gcc | memcheck | fresh | crashes].
 
 A test of GCC says by dg-shouldfail that it has an error, and by dg-output its kind and the line of its first frame. One of
-memcheck has its errors in NAME.stderr.exp, and one of fresh/ its guilty line in lines.txt. A test that says of no error has to
-be silent. Beside it stands what AddressSanitizer and memcheck tell of the same test on the machine that this runs on (peers.py).
+memcheck has its errors in NAME.stderr.exp. Programs of fresh/ and of tests/crashes have a guilty line. A test that says of no error
+has to be silent. Beside it stands what AddressSanitizer and memcheck tell of the same test on the machine that this runs on (peers.py).
 FOLDER/results.json gets all, of which tables.py makes tables."""
 from __future__ import annotations
 
@@ -11,7 +11,7 @@ import os
 import re
 import subprocess
 import sys
-from typing import Any, Dict, Iterable, Iterator, List, NamedTuple, Sequence, Tuple
+from typing import Any, Dict, Iterable, Iterator, List, NamedTuple, Sequence
 
 import peers
 
@@ -26,6 +26,8 @@ HEAD = re.compile(r"AddressSanitizer:? ([a-z-]+)")
 FRAME = re.compile(r"(?:#0|#1)[^\n]*?([\w+-]+\.c):(\d+)")
 OPTIONS = re.compile(r'dg-(?:additional-)?options "([^"]*)"\s*\}')      # (those of one target alone have more behind)
 SETTINGS = re.compile(r'dg-set-target-env-var ASAN_OPTIONS "([^"]*)"')
+CRASHES_OF_MEMORY = "freed", "libc", "overrun", "underflow", "stack", "jump", "unwritten", "narrowed"    # their kinds in cases.txt
+POOL = "--alloc", "take", "--free", "give"      # of tests/crashes/heap.c
 MEMCHECK_KINDS = (("Invalid read", "invalid-access"), ("Invalid write", "invalid-access"), ("Invalid free", "invalid-free"),
                   ("uninitialised", "use-of-uninitialized-value"), ("overlap", "memcpy-param-overlap"), ("definitely lost in", LEAK))
 
@@ -34,7 +36,8 @@ class Test(NamedTuple):
     """kind      nothing if the test has no error
     lines     those of its frames, if it says them
     levels    what it is built by, beside its own options
-    settings  what it sets for AddressSanitizer"""
+    settings  what it sets for AddressSanitizer
+    elf       its ELF file, if that is kept; recorded: how it is recorded"""
     name: str
     source: str
     kind: str
@@ -42,6 +45,8 @@ class Test(NamedTuple):
     levels: tuple[str, ...]
     options: tuple[str, ...] = ()
     settings: str = ""
+    elf: str = ""
+    recorded: tuple[str, ...] = ("--seed", "1", "--limit", LIMIT)
 
 
 def text_of(path: str) -> str:
@@ -84,8 +89,19 @@ def fresh_tests(folder: str) -> Iterator[Test]:
             yield Test(f"fresh/{name}.c", os.path.join(folder, name + ".c"), ANY, frozenset(map(int, lines)), ("-O2",))
 
 
+def crash_tests(folder: str) -> Iterator[Test]:
+    for line in text_of(os.path.join(folder, "cases.txt")).splitlines():
+        if line.strip() and line[0] != "#":
+            name, guilty, kind, _, harts, seed, limit, *_ = line.split()
+            yield Test(f"crashes/{name}.c", os.path.join(folder, name + ".c"), ANY if kind in CRASHES_OF_MEMORY else "",
+                       frozenset([int(guilty.split(":")[1])]), ("kept",), (), "", os.path.join(folder, name + ".elf"),
+                       ("--harts", harts, "--seed", seed, "--limit", limit))
+
+
 def built(test: Test, folder: str, level: str) -> str:
     """The ELF file of a test, or nothing."""
+    if test.elf:
+        return test.elf
     elf = os.path.join(folder, test.name.replace("/", "-")[:-2] + level + ".elf")
     if not os.path.exists(elf):
         parts = [os.path.join(TOP, "examples", "picolibc", name) for name in ("start.S", "machine.c")]
@@ -124,16 +140,22 @@ def lines_in(found: Any) -> Iterator[int]:
         yield from lines_in(each)
 
 
-def by_memory(test: Test, log: str, elf: str) -> Tuple[str, str]:
-    """What came of a test by `memory`, and what was told first. Of a fresh one each line of a finding counts, as a reader sees it."""
-    answer = companion("memory", log, elf, *(["--leaks"] if test.kind == LEAK else []))
+def by_memory(test: Test, log: str, elf: str) -> Dict[str, Any]:
+    """What came of a test by `memory`, what was told first, and which kinds tell the line. Of programs with a guilty line each line
+    of a finding counts, as a reader sees it."""
+    answer = companion("memory", log, elf, *(["--leaks"] if test.kind == LEAK else []), *(POOL if test.elf else ()))
+    if "error" in answer and test.elf:          # it has no such pool
+        answer = companion("memory", log, elf)
     if "error" in answer:
-        return "isn't read", str(answer["error"])
+        return {"memory": "isn't read", "told": str(answer["error"])}
     lost = [{"kind": LEAK, "calls": each["calls"]} for each in answer["leaks"] if each["unreached"]]
     found: List[Dict[str, Any]] = (answer["findings"] + lost)[:FIRST]
     said = "; ".join(f"{each['kind']} {each['calls'][0]['line'] if each['calls'] else '?'}" for each in found)
-    near = lines_in(found) if test.name.startswith("fresh/") else (line["line"] for each in found for line in each["calls"][:2])
-    return end_of(test, [each["kind"] for each in found], near), said
+    has_guilty = test.name.startswith(("fresh/", "crashes/"))
+    near = [set(lines_in(each) if has_guilty else (line["line"] for line in each["calls"][:2])) for each in found]
+    by = sorted({each["kind"] for each, lines in zip(found, near) if lines & test.lines})
+    return {"memory": end_of(test, [each["kind"] for each in found], set().union(*near)), "told": said, "by": by,
+            "kinds": sorted({each["kind"] for each in found})}
 
 
 def by_why(test: Test, log: str, elf: str) -> str:
@@ -142,15 +164,14 @@ def by_why(test: Test, log: str, elf: str) -> str:
     return end_of(test, [ANY] * len(suspects), lines_in(suspects))
 
 
-def tried(test: Test, elf: str) -> Dict[str, str]:
-    """What came of a test by each."""
-    log = elf[:-4] + ".log"
-    subprocess.run([PROGRAM, "record", "--format", "2", "--seed", "1", "--limit", LIMIT, elf, log, elf[:-4] + ".book"],
+def tried(test: Test, folder: str, elf: str) -> Dict[str, Any]:
+    """What came of a test by `memory`, and of a fresh one by `why`."""
+    log = os.path.join(folder, os.path.basename(elf)[:-4] + ".log")
+    subprocess.run([PROGRAM, "record", "--format", "2", *test.recorded, elf, log, log[:-4] + ".book"],
                    stdout=subprocess.DEVNULL, stderr=subprocess.DEVNULL, timeout=PATIENCE_S)
     if not os.path.exists(log):
         return {"memory": "isn't recorded"}
-    end, told = by_memory(test, log, elf)
-    found = {"memory": end, "told": told}
+    found = by_memory(test, log, elf)
     if test.name.startswith("fresh/"):
         found["why"] = by_why(test, log, elf)
     return found
@@ -158,17 +179,21 @@ def tried(test: Test, elf: str) -> Dict[str, str]:
 
 def results(folder: str, only: str) -> Iterator[Dict[str, Any]]:
     tests = [*gcc_tests(os.path.join(folder, "gcc")), *memcheck_tests(os.path.join(folder, "valgrind", "memcheck", "tests")),
-             *fresh_tests(os.path.join(HERE, "fresh"))]
+             *fresh_tests(os.path.join(HERE, "fresh")), *crash_tests(os.path.join(TOP, "tests", "crashes"))]
     for test in (test for test in tests if test.name.startswith(only)):
         for level in test.levels:
             elf = built(test, folder, level)
             try:
-                ours = tried(test, elf) if elf else {"memory": "doesn't build"}
+                ours = tried(test, folder, elf) if elf else {"memory": "doesn't build"}
             except subprocess.TimeoutExpired:
                 ours = {"memory": "takes too long"}
             yield {"test": test.name, "level": level, "kind": test.kind, "lines": sorted(test.lines), **ours,
-                   **{name: end_of(test, *told) if told else "doesn't build" for name, told in (
-                       ("AddressSanitizer", peers.by_sanitizer(test, folder, level)), ("memcheck", peers.by_memcheck(test, folder, level)))}}
+                   **({} if test.elf else by_peers(test, folder, level))}
+
+
+def by_peers(test: Test, folder: str, level: str) -> Dict[str, str]:
+    told = {"AddressSanitizer": peers.by_sanitizer(test, folder, level), "memcheck": peers.by_memcheck(test, folder, level)}
+    return {name: end_of(test, *each) if each else "doesn't build" for name, each in told.items()}
 
 
 def main(folder: str, only: str = "") -> None:
