@@ -19,9 +19,9 @@ TOP = os.path.dirname(os.path.dirname(HERE))
 PARTS = ("companion", "python", "VERSION")
 
 
-def read_mutants() -> List[Dict[str, str]]:
+def read_mutants(name: str = os.path.join(HERE, "mutants.txt")) -> List[Dict[str, str]]:
     found: List[Dict[str, str]] = []
-    with open(os.path.join(HERE, "mutants.txt"), encoding="utf-8") as file:
+    with open(name, encoding="utf-8") as file:
         for line in file.read().splitlines():
             key, _, value = line.partition(": ")
             if key.startswith("# "):

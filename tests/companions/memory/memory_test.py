@@ -57,6 +57,11 @@ CASES = (
     ("asked", findings.STACK, "store of 1, 0 bytes after an alloca or array of asked (13 bytes)", "set"),
     ("array_of_length", findings.STACK, "store of 1, 0 bytes after an alloca or array of array_of_length (28 bytes)", "set"),
     ("after_scope", findings.AFTER_SCOPE, "store of 1, text of after_scope, whose block has ended", "set"),
+    ("after_unknown", findings.HEAP, "store of 1, 0 bytes after a block of 8 bytes", "set"),
+    ("freed_unknown", findings.FREED, "store of 1, 5 bytes into a block of 8 bytes that was given back", "set"),
+    ("after_return_unknown", findings.AFTER_RETURN, "in a frame that has ended", "set"),
+    ("unwritten_bits", findings.UNINITIALIZED, "0 bytes into a block of 8 bytes", "unwritten_bits"),
+    ("moved", findings.HEAP, "store of 1, 419 bytes after a block of 8 bytes", "set"),
 )
 PLAIN = "after_scope",                          # cases of the program that is compiled without optimization
 NUMBERS = {name: at for at, (name, *_) in enumerate(CASES)}
@@ -110,13 +115,17 @@ class MemoryTest(case.Case):
     def elf_of(self, name):
         return self.plain if name in PLAIN else self.built
 
+    def given(self, name, which, hart=0):
+        """The input that asks for a case."""
+        return common.written(common.path("given"), chr(ord("A") + NUMBERS[name]) + which + str(hart))
+
     def log(self, name, which, hart=0):
         """The recording of a case: `which` is b or g."""
         if not self.built:
             self.skipTest("riscv64-unknown-elf-gcc isn't installed")
         key = name, which, hart
         if key not in case.logs:
-            given = common.written(common.path("given"), chr(ord("a") + NUMBERS[name]) + which + str(hart))
+            given = self.given(name, which, hart)
             harts = ["--harts", "2"] if hart or name == "lends" else []
             case.logs[key] = common.record("-".join(map(str, key)), self.elf_of(name), "--seed", "3", "--input", given, *harts)
         return case.logs[key]
@@ -189,8 +198,7 @@ class MemoryTest(case.Case):
     def record_in_intervals(self, name):
         """A good recording with a Header each hundred rows, so that an end of it can be read."""
         self.log(name, "g")
-        given = common.written(common.path("given"), chr(ord("a") + NUMBERS[name]) + "g0")
-        return common.record(name + "-ends", self.built, "--seed", "3", "--input", given, "--interval", "100")
+        return common.record(name + "-ends", self.built, "--seed", "3", "--input", self.given(name, "g"), "--interval", "100")
 
     def test_accesses_to_what_was_given_back_are_those_of_a_plain_reading(self):
         for name in ("freed", "resized", "heap_after", "unwritten_copied"):
@@ -215,6 +223,11 @@ class MemoryTest(case.Case):
         self.assertEqual(first["given_back"]["calls"][0]["line"], 31)
         self.assertEqual([each["text"] for each in self.found(log, elf, "--alloc=take:=12", "--free=give")[0]],
                          [each["text"] for each in found])
+
+    def test_blocks_of_optimized_code(self):
+        """Its instructions leave their blocks: nothing is said of them."""
+        run = self.run_of(common.record("optimized", self.built, "--seed", "3", "--input", self.given("after_scope", "b")), self.built)
+        self.assertEqual(run.findings.in_order(), [])
 
     def test_a_stack_of_its_own(self):
         """A hart that changes its stack to an array hasn't run into that."""

@@ -190,6 +190,7 @@ NOINLINE static void over_return_address(unsigned bad)
 
 NOINLINE static void no_pointer(unsigned bad)
 {
+    first = (struct node *)3;               /* a mark */
     copy((char *)&first, bad ? "text" : (char *)&kept_place, 4);
     turn += 0;
     nodes[0].next = &nodes[1];
@@ -326,18 +327,69 @@ NOINLINE static void after_scope(unsigned bad)
         set(kept_place, 1, 1);
     }
     set(kept_place, 2, 1);
+    sink = 1;
+}
+
+/* The same place, but what it was made for can't be followed. */
+NOINLINE static char *unknown(const char *place)
+{
+    sink = (unsigned)place ^ 0x5a5a5a5a;
+    return (char *)(sink ^ 0x5a5a5a5a);
+}
+
+NOINLINE static void after_unknown(unsigned bad)
+{
+    char *text = calloc(8, 1), *other = calloc(8, 1);
+    set(text + (other - text), 7, 1);
+    set(unknown(text), 7 + bad, 1);
+    sink = other[7];
+}
+
+NOINLINE static void freed_unknown(unsigned bad)
+{
+    char *text = malloc(8), *place = unknown(text);
+    if (!bad)
+        set(place, 5, 1);
+    free(text);
+    if (bad)
+        set(place, 5, 1);
+}
+
+NOINLINE static void after_return_unknown(unsigned bad)
+{
+    keep_place(bad);
+    kept_place = unknown(kept_place);
+    set(kept_place, 2, 1);
+}
+
+NOINLINE static void unwritten_bits(unsigned bad)
+{
+    unsigned *words = malloc(8), *none = calloc(1, 4);
+    words[0] = (words[0] & ~15u) | 5;
+    if ((get(words, 0) & (bad ? 31 : 15)) > 9 || *none)
+        sink = 1;
+    free(words);
+}
+
+NOINLINE static void moved(unsigned bad)
+{
+    char **texts = calloc(1, sizeof *texts);
+    texts[0] = calloc(8, 1);
+    texts = realloc(texts, 400);
+    set(texts[0], 7 + 420 * bad, 1);
 }
 
 static void (*const cases[])(unsigned) = {
     heap_after, heap_before, heap_by_copy, freed, freed_twice, freed_inside, freed_global, failed, resized, aligned, global_after,
     member_after, block_member_after, stack_after, after_return, depth, over_return_address, no_pointer, unwritten_block,
     unwritten_local, unwritten_copied, unwritten_out, leak, overlapping, lends, freed_nowhere,
-    unwritten_size, asked, array_of_length, after_scope};
+    unwritten_size, asked, array_of_length, after_scope,
+    after_unknown, freed_unknown, after_return_unknown, unwritten_bits, moved};
 
 static void work(int hart)
 {
     if (input[2] - '0' == hart)
-        cases[input[0] - 'a'](input[1] == 'b');
+        cases[input[0] - 'A'](input[1] == 'b');
 }
 
 int main(int hart)
@@ -352,7 +404,7 @@ int other_harts(int hart)
 {
     while (!__atomic_load_n(&turn, __ATOMIC_SEQ_CST))
         ;
-    if (input[0] == 'y' && hart == 1)
+    if (input[0] == 'Y' && hart == 1)
         gives_back();
     work(hart);
     return 0;
