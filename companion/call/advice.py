@@ -26,6 +26,30 @@ ADVICE = {                  # by the beginning of the line on err
         "copy LOG again"),
     "races: more than": (
         "give a greater MAX, up to 1000000"),
+    "setting seed ": (
+        "the range of --seed is 0 to 18446744073709551615"),
+    "setting format ": (
+        "the range of --format is 1 to 2; 2 keeps the interval of a crash"),
+    "setting harts ": (
+        "the range of --harts is 1 to 8, with '--format 2' 1 to 16"),
+    "setting interval ": (
+        "the range of --interval is 1 to 10000000"),
+    "setting limit ": (
+        "the range of --limit is 1 to 1099511627776"),
+    "setting log-size ": (
+        "the range of --log-size is 16384 to 268435456"),
+    "setting memory ": (
+        "the range of --memory is 65536 to 67108864, a multiple of 4096"),
+    "setting sets ": (
+        "the range of --sets is 1 to 1024, a power of two"),
+    "setting ways ": (
+        "the range of --ways is 1 to 16"),
+    "setting line ": (
+        "the range of --line is 1 to 16, a power of two"),
+    "setting sets2 ": (
+        "the range of --sets2 is 1 to 4096, a power of two; needs '--format 2'"),
+    "setting ways2 ": (
+        "the range of --ways2 is 1 to 16; needs '--sets2', and is needed by it"),
     "elf: NotElf": (
         "it isn't an ELF file: give the linked program"),
     "elf: NotRv32": (

@@ -292,6 +292,11 @@ def advice_statuses(table: Table) -> Lines:
     return (pair(re.sub(" ?[A-Z]{2,}.*", "", entry.last("line").strip("`")), text) for entry in table for text in entry.all("advice"))
 
 
+def advice_ranges(table: Table) -> Lines:
+    return (pair(f"setting {entry.first[2:]} ", f"the range of {entry.first} is {text}")
+            for entry in table for text in entry.all("range") if text and entry.rest == "N")
+
+
 def advice_kinds(table: Table) -> Lines:
     return (pair(*each) for entry in table for each in told(entry))
 
@@ -347,7 +352,7 @@ def renewed(name: str, text: str) -> str:
 def listed() -> str:
     """The names of the files that an installed script has in lib/zelkuma, beside the program."""
     names = ["VERSION", "release/COMMIT", "release/STAMP", *(f"tools/{name}" for name in (
-        "files.txt", "install.sh", "new.sh", "say.sh", "version.sh", "help/each.txt", "help/page.txt", "help/words.sh"))]
+        "doctor.sh", "files.txt", "install.sh", "new.sh", "say.sh", "tools.txt", "version.sh", "help/each.txt", "help/page.txt", "help/words.sh"))]
     starters = [f"{folder}/{end}" for folder in ("bare", "lib", "picolibc") for end in ("Makefile", "*.[cSh]", "program.ld")]
     found = [*TOP.glob("tools/launcher/*.sh"), *(file for name in starters for file in TOP.glob(f"examples/{name}")), *(
         file for ending in ("py", "html", "js", "css", "typed") for folder in ("companion", "companion/*", "companion/view/page", "python/zelkuma")

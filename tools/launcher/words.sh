@@ -30,7 +30,7 @@ find_near() { # WORD [COMMAND]
     local candidate
     near=
     # shellcheck disable=SC2086 # they are parted at their spaces
-    for candidate in "${!takes[@]}" ${companions//[[:space:]]/.. }build. install. uninstall. help.; do
+    for candidate in "${!takes[@]}" ${companions//[[:space:]]/.. }build. new. doctor. install. uninstall. help.; do
         candidate=${candidate%%..}
         [[ ${2-} == "${candidate%%.*}" || (-z ${2-} && $candidate != *.?*) ]] || continue
         candidate=${candidate#"${2-}"}
