@@ -61,6 +61,7 @@ def is_core(name: str) -> bool:
 
 
 LOG = Kind("a whole log", is_log)
+INPUT = Kind("an empty file", lambda _: False)      # an input can be any bytes, so none is overwritten
 CORE = Kind("a core file of export --core", is_core)
 TURNS = Kind("a list of turns", is_book)
 PAGE = text_kind("a page of zelkuma", r'<!doctype html>\s*<html lang="en">\s*<head>\s*<meta charset="utf-8">\s*' + PAGE_MARK,

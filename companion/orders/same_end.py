@@ -22,11 +22,12 @@ MOST_INTERVALS = 16         # of a hart are replayed
 
 @dataclass(frozen=True)
 class Recording:
-    """A recording that was made: its status, and the names of its log, its list of turns and its output."""
+    """A recording that was made: its status, and the names of its log, its list of turns, its output and what went to err."""
     status: int
     log: str
     book: str
     said: str
+    err: str = ""
 
     @cached_property
     def read(self) -> Log:

@@ -2,16 +2,17 @@
 from __future__ import annotations
 
 import os
-from typing import Mapping, Sequence
+from typing import Mapping, Sequence, Union
 
 from ..call import streams
-from ..call.errors import REFUSED, CompanionError
+from ..call.errors import REFUSED, UNREADABLE, CompanionError
 from ..call.files import check_regular
-from ..call.kinds import LOG, TURNS
+from ..call.kinds import INPUT, LOG, TURNS
 from ..call.options import decimal, parse, read_words, whole
 from ..call.saving import target
 from ..recording.answers import put_answer
 from ..recording.book import check_book
+from ..recording.chunks import check_program
 from ..recording.elf import Elf
 from ..recording.log import is_fault, load_log, read_log
 from ..recording.naming import named_elf
@@ -20,7 +21,8 @@ from ..why.facts import asked_byte
 from .again import settings_of
 from .record import RECORD_OPTIONS
 from .same_end import exit_code
-from .shrinking import ShrinkInput, shrink
+from .shrinking import ShrinkInput, Shrunk, shrink
+from .shrinking_input import Asked, ShrunkInput, shrink_input
 
 HELP = """zelkuma shrink LOG ELF BOOK NEWLOG NEWBOOK [--seconds N] [--output N:BYTE] [--names ELF] [--source DIR] [--json] [-- WORD..]
 
@@ -39,10 +41,23 @@ hartxturns, and then its switches: who stops where, who continues where, and wha
     --json           prints one JSON object in place of the text (docs/JSON.md)
     -- WORD..        options of `record`: --input FILE is needed if LOG has one; others have to be those of LOG
 
+With one hart the input is shrunk in place of the order:
+
+    zelkuma shrink LOG ELF NEW --input FILE [--says TEXT] [--seconds N] [--names ELF] [--source DIR] [--json]
+
+FILE is what LOG's run read. NEW is the shortest that is found by which the run still ends as LOG does: the same fault,
+and not near 0 if LOG's isn't; the same loop at the limit; or the same exit code, if it isn't 0. Pieces are left out, and what is
+left is made plain: digits 0, letters a.
+
+    --says TEXT      a run ends the same if it writes this text, and its exit code is the same
+
 The answer is the same on each machine. Ctrl-C, TERM and HUP end the search (130, 143, 129): the shortest that
 was found is saved. BOOK has to be LOG's, as `audit` says. Companions show; the program proves."""
-FORM = "shrink LOG ELF BOOK NEWLOG NEWBOOK [--seconds N] [--output N:BYTE] [--names ELF] [--source DIR] [--json] [-- WORD..]"
+FORM = "shrink LOG ELF BOOK NEWLOG NEWBOOK | NEW --input FILE [--says TEXT] [--seconds N] [--output N:BYTE] [--names ELF] [--source DIR] [--json] [-- WORD..]"
+INPUT_FORM = "shrink LOG ELF NEW --input FILE [--says TEXT] [--seconds N] [--names ELF] [--source DIR] [--json]"
+ORDER_FORM = "shrink LOG ELF BOOK NEWLOG NEWBOOK [--seconds N] [--output N:BYTE] [--names ELF] [--source DIR] [--json] [-- WORD..]"
 LONGEST_SEARCH = 1 << 20    # seconds
+LONGEST_INPUT, TOO_LONG = 1 << 24, 5    # bytes; the status of a file that is too long
 
 
 def recorded_options(log: str, words: Sequence[str]) -> dict[str, str]:
@@ -61,7 +76,7 @@ def recorded_options(log: str, words: Sequence[str]) -> dict[str, str]:
 
 def check(log: str, elf: str, book: str, options: Mapping[str, str], has_byte: bool) -> None:
     if options["--harts"] == "1":
-        raise CompanionError("LOG is of one hart, which has one order: there is nothing to shrink", REFUSED)
+        raise CompanionError("LOG is of one hart, which has one order: there is nothing to shrink; NEW --input FILE shrinks its input", REFUSED)
     if os.path.exists(book) and os.path.samefile(log, book):
         raise CompanionError("LOG is given for BOOK: a lean recording keeps no BOOK, and can't be shrunk", REFUSED)
     check_book(log, elf, book, [f"--input={options['--input']}"] if "--input" in options else [])
@@ -70,19 +85,53 @@ def check(log: str, elf: str, book: str, options: Mapping[str, str], has_byte: b
         raise CompanionError("the run of LOG ended well; --output N:BYTE asks for a byte of its output that is wrong", REFUSED)
 
 
-def main(words: list[str]) -> int:
+def shrink_order(words: list[str]) -> tuple[Mapping[str, str], Union[Shrunk, ShrunkInput]]:
     at = words.index("--") if "--" in words else len(words)
-    (log, elf_name, book, new_log, new_book), given = read_words(words[:at], FORM)
+    (log, elf_name, book, new_log, new_book), given = read_words(words[:at], ORDER_FORM)
     options = recorded_options(log, words[at + 1:])
     byte = asked_byte(given["--output"]) if "--output" in given else None
-    seconds = whole(given.get("--seconds", "0"), 0, LONGEST_SEARCH, "--seconds")
     read = [log, elf_name, book, options.get("--input", "")]
     check_regular(*read)
     targets = target(new_log, LOG, read), target(new_book, TURNS, [*read, new_log])
     check(log, elf_name, book, options, byte is not None)
     elf = Elf(elf_name)
-    shrunk = shrink(ShrinkInput(log, book, elf, options, *targets, named_elf(elf, given.get("--names", "")), byte, seconds,
-                                folders=source_folders(given)))
+    return given, shrink(ShrinkInput(log, book, elf, options, *targets, named_elf(elf, given.get("--names", "")), byte, seconds_of(given),
+                                     folders=source_folders(given)))
+
+
+def shrink_its_input(words: list[str]) -> tuple[Mapping[str, str], Union[Shrunk, ShrunkInput]]:
+    (log, elf_name, new), given = read_words(words, INPUT_FORM)
+    source, options = given["--input"], recorded_options(log, [])
+    if options["--harts"] != "1":
+        raise CompanionError("LOG is of several harts: shrink its order first; of one hart alone the input is shrunk", REFUSED)
+    check_regular(log, elf_name, source)
+    place = target(new, INPUT, [log, elf_name, source, given.get("--names", "")])
+    check_program(log, elf_name)
+    data = input_of(source)
+    elf = Elf(elf_name)
+    return given, shrink_input(Asked(log, elf, options, source, data, place, named_elf(elf, given.get("--names", "")),
+                                     given.get("--says", ""), seconds_of(given), source_folders(given)))
+
+
+def input_of(name: str) -> bytes:
+    try:
+        with open(name, "rb") as file:
+            data = file.read(LONGEST_INPUT + 1)
+    except OSError as error:
+        raise CompanionError(f"{name} can't be read: {error.strerror}", UNREADABLE)
+    if len(data) > LONGEST_INPUT:
+        raise CompanionError(f"{name} is longer than {LONGEST_INPUT >> 20} MiB", TOO_LONG)
+    return data
+
+
+def seconds_of(given: Mapping[str, str]) -> int:
+    return whole(given.get("--seconds", "0"), 0, LONGEST_SEARCH, "--seconds")
+
+
+def main(words: list[str]) -> int:
+    of_order = words[:words.index("--")] if "--" in words else words
+    is_of_input = any(word.partition("=")[0] == "--input" for word in of_order)
+    given, shrunk = (shrink_its_input if is_of_input else shrink_order)(words)
     if "--json" in given:
         put_answer("shrink", **shrunk.answer)
     else:

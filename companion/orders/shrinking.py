@@ -30,6 +30,7 @@ from .record import Quick
 from .same_end import Ends, Recording
 from .search import Nearest, Search
 from .switches import answer_of, bounded, window_lines
+from .side_by_side import SideBySide
 from .tries import Tries
 from .waiting import Waiting
 
@@ -69,8 +70,12 @@ class Shrunk(NamedTuple):
     nearest: Optional[Nearest]
 
 
+def memory_folder() -> str:
+    return MEMORY_FOLDER if os.access(MEMORY_FOLDER, os.W_OK) else ""
+
+
 def shrink(asked: ShrinkInput) -> Shrunk:
-    with Scratch(MEMORY_FOLDER if os.access(MEMORY_FOLDER, os.W_OK) else "") as folder, Quick(folder) as quick:
+    with Scratch(memory_folder()) as folder, Quick(folder) as quick:
         found, made, status = search(asked, quick)
         nearest = found.nearest_good() if asked.good and not status else None
         if nearest:
@@ -92,7 +97,7 @@ class Signals:
 
     status  to end with"""
 
-    def __init__(self, tries: Tries, seconds: int) -> None:
+    def __init__(self, tries: SideBySide[Any, Any], seconds: int) -> None:
         self.tries, self.status, self.opened = tries, 0, contextlib.ExitStack()
         self.seconds = seconds
 

@@ -2,21 +2,17 @@
 however many are under way."""
 from __future__ import annotations
 
-import os
 from contextlib import closing
-from pathlib import Path
-from typing import Generator, Hashable, Iterable, Iterator, Mapping, NamedTuple, Optional, Sequence
+from typing import Generator, Hashable, Iterable, Mapping, NamedTuple, Optional, Sequence
 
-from ..call import streams
 from ..call.errors import NO_INTERVAL, CompanionError
 from ..recording.turns import Pieces, pieces_of, size_of, turns_of
-from .record import ENDS, Quick, refusal
+from .record import Quick
 from .same_end import Ends, Exact, Over, Recording
+from .side_by_side import Attempt, SideBySide
 from .waiting import Waiting
 
 ANY = 1 << 62, 0            # a size that no list has
-MOST_TRIES = 20000
-AHEAD = 4                   # so many tries for each that is under way may wait for those before them
 
 
 class Held(NamedTuple):
@@ -25,62 +21,30 @@ class Held(NamedTuple):
     pieces: Pieces
 
 
-class Try:
+class Try(Attempt):
     """A recording by a list of turns, under way or done.
 
     asked  the list; turns: the same as bytes"""
 
     def __init__(self, quick: Quick, options: Mapping[str, str], elf: str, number: int, asked: Pieces) -> None:
-        self.asked, self.turns, self.number = asked, turns_of(asked), number
-        self.log, self.book, self.said, self.err, turns = (
-            os.path.join(quick.folder, f"{number}.{name}") for name in ("log", "book", "said", "err", "turns"))
-        self.files = [self.log, self.book, self.said, self.err, turns]
-        Path(turns).write_bytes(self.turns)
-        words = ["record", *(f"{name}={value}" for name, value in options.items()), "--", elf, self.log, self.book]
-        self.child = quick.start(self.said, self.err, *words, schedule=f"book:{turns}")
-        self.status = 0
-
-    def wait(self) -> None:
-        self.status = self.child.wait()
-
-    def made(self) -> Recording:
-        """The recording that it made, if it did."""
-        if self.status not in ENDS:
-            raise refusal(self.err, self.status)
-        return Recording(self.status, self.log, self.book, self.said)
-
-    def remove(self) -> None:
-        for name in self.files:
-            Path(name).unlink(missing_ok=True)
+        self.asked, self.turns = asked, turns_of(asked)
+        super().__init__(quick, options, elf, number, self.turns, False)
 
 
-class Tries:
+class Tries(SideBySide[Try, Pieces]):
     """options      those of `record`
     leaves_rest  whether a list counts only as far as it was asked for, and what comes behind it is left to seed 0
     ends_within  whether a run has to end by what was asked for
-    count        how many tries were judged
-    most_counts  how many instructions a hart did at most in the recording that is wanted
-    stopped      whether the search is to end"""
+    most_counts  how many instructions a hart did at most in the recording that is wanted"""
 
     def __init__(self, options: Mapping[str, str], ends: Ends, jobs: int) -> None:
-        self.options, self.ends, self.jobs = dict(options), ends, jobs
-        self.leaves_rest = self.ends_within = self.stopped = False
+        super().__init__(jobs)
+        self.options, self.ends = dict(options), ends
+        self.leaves_rest = self.ends_within = False
         self.rough: Hashable = None
         self.exact: Exact = Over()
         self.exact_of_last: Exact = Over()
-        self.running: dict[int, Try] = {}       # by process
-        self.count, self.started, self.most_counts = 0, 0, 0
-        self.progress = streams.Progress()
-
-    def stop(self, *_: object) -> None:
-        """No call is broken off, so that each child is known."""
-        self.stopped = True
-        for one in self.running.values():
-            one.child.kill()
-
-    def is_ended(self) -> bool:
-        """Whether the search is to end: it was stopped, or has made all recordings that it may make."""
-        return self.stopped or self.count >= MOST_TRIES
+        self.most_counts = 0
 
     def want(self, made: Recording) -> None:
         """From here on a try is wanted that ends as this recording."""
@@ -110,38 +74,7 @@ class Tries:
 
     def judged_in_order(self, candidates: Iterable[Pieces], most: tuple[int, int]) -> Generator[Optional[Pieces], None, None]:
         """Of each candidate its turns, or None."""
-        ended: dict[int, Try] = {}
-        left, at = iter(candidates), self.started
-        try:
-            while not self.is_ended():
-                self.start(left, at + self.jobs * AHEAD)
-                while at in ended and not self.stopped:
-                    pieces = self.judged(ended[at], most)
-                    ended.pop(at).remove()
-                    at += 1
-                    yield pieces
-                if self.running:
-                    self.wait(ended)
-                elif at == self.started:
-                    break
-        finally:
-            self.clear(ended)
-
-    def start(self, left: Iterator[Pieces], most: int) -> None:
-        while len(self.running) < self.jobs and self.started < most and not self.stopped:
-            asked = next(left, None)
-            if asked is None:
-                return
-            one = self.begin(asked)
-            self.running[one.child.pid] = one
-
-    def wait(self, ended: dict[int, Try]) -> None:
-        process, status = os.wait()
-        one = self.running.pop(process, None)
-        if one is None:                         # somebody ended the group's own process
-            return
-        one.status = one.child.end(status)
-        ended[one.number] = one
+        return self.in_order(candidates, lambda one: self.judged(one, most))
 
     def judged(self, one: Try, most: tuple[int, int]) -> Optional[Pieces]:
         """The turns of a try that ends as wanted and is small enough."""
@@ -173,14 +106,6 @@ class Tries:
             if error.status == NO_INTERVAL:     # the log lost the interval of the end
                 return None
             raise
-
-    def clear(self, ended: Mapping[int, Try]) -> None:
-        for one in self.running.values():
-            one.child.kill()
-            one.child.wait()
-        for one in [*self.running.values(), *ended.values()]:
-            one.remove()
-        self.running.clear()
 
 
 def followed(asked: bytes, turns: bytes) -> bytes:

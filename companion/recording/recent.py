@@ -23,12 +23,12 @@ FIRST_ROWS, MORE_ROWS = 1000000, 2600000        # are read at first, and if valu
 
 
 class LogFile:
-    """A log that is checked, and ends of it. Its files are gone once it is closed."""
+    """A log that is checked, and ends of it. Its files are gone once it is closed, unless they are in a folder that is given."""
 
-    def __init__(self, name: str) -> None:
+    def __init__(self, name: str, folder: str = "") -> None:
         self.name, self.source = name, name
         self.files = contextlib.ExitStack()
-        self.folder = ""
+        self.folder = folder
 
     def close(self) -> None:
         self.files.close()

@@ -22,7 +22,7 @@ LONGEST_CELL = 60
 
 # Each page and the words that it may have.
 PAGES = {
-    "CHANGELOG.md": 2000,
+    "CHANGELOG.md": 2200,
     "CONTRIBUTING.md": 700,
     "README.md": 1000,
     "SECURITY.md": 450,
@@ -33,12 +33,12 @@ PAGES = {
     "docs/GDB.md": 1500,
     "docs/GUIDE.md": 7000,
     "docs/INTERNALS.md": 3850,
-    "docs/JSON.md": 1400,
+    "docs/JSON.md": 1450,
     "docs/MEMORY.md": 1300,
     "docs/PROOF.md": 3050,
     "docs/PYTHON.md": 600,
     "docs/RUN.md": 1000,
-    "docs/SHRINK.md": 700,
+    "docs/SHRINK.md": 1050,
     "docs/VIEW.md": 1300,
     "docs/WHY.md": 1800,
 }
