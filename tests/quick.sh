@@ -138,6 +138,8 @@ tries tests/sources/stale.py
 tries tests/sources/promised.py
 tries tests/sources/examples.sh
 tries tests/companions.sh "$program"
+ZELKUMA_PROGRAM=$program tries tests/hostile/signals.py
+ZELKUMA_PROGRAM=$program tries tests/hostile/forged_dwarf.py 16 1 3
 tries tests/oracle/quick.sh "$program"
 wait
 tell
