@@ -130,9 +130,9 @@ for command in check list; do
         'BEGIN { printf "%s: %.2f bytes of memory at the peak for a byte of log\n", what, most * 1024 / bytes }'
 done
 
-# What a turn takes is the difference between this recording and one of half as many instructions. An interval has a
-# million of them, so that one replay takes a while.
-record=(record --seed 1 --interval 1000000 --log-size 67108864)
+# What a turn takes is the difference between a recording and one of half as many instructions. Both fill their logs, which are
+# of one size then.
+record=(record --seed 1 --interval 1000000)
 most=$(peak "$zelkuma" "${record[@]}" "$elf" "$work/LOG" "$work/BOOK")
 instructions=$(told instructions)
 turns=$(told turns)

@@ -79,7 +79,7 @@ class AnswersTest(case.Case):
         found = json.loads(self.says("seeds", "--json", "--only", "seeds", "1", "9", *words))
         self.assertEqual((found["answer"], found["seed"], found["from"], found["to"]), ("seeds", 3, 1, 9))
         self.assertEqual(set(found), {"answer", "version", "zelkuma", "kind", "number", "seed", "command", "status", "from", "to", "tried",
-                                      "part", "parts", "shrunk", "compared", "endings"})
+                                      "part", "parts", "shrunk", "compared", "endings", "until", "kinds"})
         self.assertEqual(found["endings"][0], {"status": 0, "place": "-", "count": 2, "kind": "seed", "number": 1, "files": []})
         self.assertEqual((found["kind"], found["number"], found["tried"], len(found["endings"])), ("seed", 3, 3, 2))
         self.assertIn(" --seed=3 ", found["command"])
