@@ -197,7 +197,17 @@ class Flow:
         if one.kind != LOAD or one.size != 4 or one.base is None:
             return None
         key = self.slot(one.base, one.imm)
-        return state.get(key) if key is not None else self.facts.loaded(one.base, one.base.offset + one.imm)
+        if key is not None:
+            return state.get(key)
+        return self.variable(one) if one.base.to == FRAME else self.facts.loaded(one.base, one.base.offset + one.imm)
+
+    def variable(self, one: Operation) -> Optional[Value]:
+        """What is loaded from a variable of the frame, if that is a pointer to a structure."""
+        if one.base is None or one.base.indexed:
+            return None
+        at = one.base.offset + one.imm
+        found = [each for each in self.program.locals_of(self.function.first) or () if each.offset == at and each.low <= one.pc < each.high]
+        return Value(POINTER, 0, False, found[0].pointee) if len(found) == 1 and found[0].pointee else None
 
     def call(self, one: Operation, state: State) -> None:
         """What a call leaves. One that saves registers moves sp, and leaves what its caller had."""

@@ -35,13 +35,15 @@ class Object(NamedTuple):
 
 
 class Local(NamedTuple):
-    """A variable of a frame, by its offset from the frame's begin; low and high are the addresses of its scope."""
+    """A variable of a frame, by its offset from the frame's begin; low and high are the addresses of its scope. `pointee`: the
+    structure that it leads to, or 0."""
     offset: int
     size: int
     name: str
     low: int
     high: int
     has_parts: bool
+    pointee: int
 
     @property
     def end(self) -> int:
@@ -156,7 +158,7 @@ class Program:
                 where, kind = each.block(LOCATION), self.dwarf.type_of(each)
                 if where[:1] == bytes([FBREG]) and self.types.size(kind) and signed(where + b"\0", 1)[1] == len(where):
                     yield Local(signed(where, 1)[0], self.types.size(kind), self.dwarf.name_of(each), low, high,
-                                self.types.has_parts(kind))
+                                self.types.has_parts(kind), self.types.pointed(kind))
             elif each.tag in (BLOCK, INLINED):
                 begin, size = each.number(LOW), each.number(HIGH)
                 inner = (low, high) if begin is None or size is None else (begin, begin + size)

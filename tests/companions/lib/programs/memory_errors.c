@@ -330,6 +330,15 @@ NOINLINE static void after_scope(unsigned bad)
     sink = 1;
 }
 
+/* Only the variable's type tells what is in the block. */
+NOINLINE static void local_member_after(unsigned bad)
+{
+    void *block = malloc(sizeof(struct name));
+    struct name *name = block;
+    name->text[11 + bad] = 1;
+    free(block);
+}
+
 /* The same place, but what it was made for can't be followed. */
 NOINLINE static char *unknown(const char *place)
 {
@@ -384,7 +393,7 @@ static void (*const cases[])(unsigned) = {
     member_after, block_member_after, stack_after, after_return, depth, over_return_address, no_pointer, unwritten_block,
     unwritten_local, unwritten_copied, unwritten_out, leak, overlapping, lends, freed_nowhere,
     unwritten_size, asked, array_of_length, after_scope,
-    after_unknown, freed_unknown, after_return_unknown, unwritten_bits, moved};
+    after_unknown, freed_unknown, after_return_unknown, unwritten_bits, moved, local_member_after};
 
 static void work(int hart)
 {
