@@ -4,6 +4,7 @@ from __future__ import annotations
 import bisect
 from typing import Iterator, NamedTuple, Optional
 
+from ..recording.cut import count_of, hart_of
 from ..recording.log import LONGEST_CALL, READ_CALL, Log
 from .lines import line_around
 from .steps import Steps
@@ -55,9 +56,10 @@ class Fills:
             while found >= 0:
                 begin, behind = line_around(text, found)
                 place, at = place + text.count(b"\n", at, begin), begin
-                hart, count, _ = text[begin:behind].split(b" ", 2)
-                if (int(hart), int(count)) in self.reads:
-                    self.take(place, self.reads[int(hart), int(count)])
+                head = bytes(text[begin:found])
+                when = int(hart_of(head)), count_of(head)
+                if when in self.reads:
+                    self.take(place, self.reads[when])
                 found = text.find(CALL_WORD, behind, high)
 
     def between(self, start: int, end: int) -> Iterator[tuple[int, Range]]:

@@ -8,6 +8,7 @@ from __future__ import annotations
 
 from typing import Callable, Optional
 
+from ..recording.cut import pc_of
 from .lines import Pattern
 from .points import Hit, Points
 from .session import Session
@@ -131,7 +132,7 @@ class Motion:
         """The first place of a hart outside of [low, high), after the step at `start`, which was
         its own as all steps since; or None."""
         def is_outside(line: bytes) -> bool:
-            return line[:1].isdigit() and not low <= int(line.split(b" ", 3)[2], 16) < high
+            return line[:1].isdigit() and not low <= pc_of(line) < high
 
         at = self.session.at
         found = self.steps.lines.find([Pattern(b" ", is_outside)], start + 1, at)

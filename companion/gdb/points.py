@@ -3,6 +3,7 @@ from __future__ import annotations
 
 from typing import Iterator, NamedTuple, Optional
 
+from ..recording.cut import hart_of, operation_of, pc_of
 from .fills import Fills
 from .lines import Pattern
 from .steps import Steps
@@ -33,7 +34,7 @@ class Watch(NamedTuple):
 
 def touches(line: bytes, watch: Watch) -> bool:
     """Whether a row loads or stores one of the watched bytes, if that is watched."""
-    size = SIZES.get(line.split(b" ", 5)[4], 4)
+    size = SIZES.get(operation_of(line), 4)
     for word in WATCH_KINDS[watch.kind][1]:
         at = line.find(word)
         if at >= 0:
@@ -65,13 +66,12 @@ class Points:
         """The first place in [start, end) at which a hart is before a breakpoint's row, or the
         last one; of all harts, or of one only. A hart that comes to a breakpoint behind its last row
         has no row there: its arrival is such a place too."""
-        def at_pc(pc: bytes) -> Pattern:
+        def at_pc(pc: int) -> Pattern:
             def accepts(line: bytes) -> bool:
-                words = line.split(b" ", 3)
-                return words[2] == pc and only in (None, int(words[0]))
-            return Pattern(b" %s " % pc, accepts)
+                return pc_of(line) == pc and only in (None, int(hart_of(line)))
+            return Pattern(b" %08x " % pc, accepts)
 
-        found = self.steps.lines.find([at_pc(b"%08x" % address) for address in self.breaks], start, end, last)
+        found = self.steps.lines.find([at_pc(address) for address in self.breaks], start, end, last)
         hits = [] if found is None else [Hit(found, self.steps.hart_at(found))]
         for hart, (place, pc) in self.steps.arrivals.items():
             reached = start < place < end if last else start < place <= end
@@ -81,7 +81,7 @@ class Points:
 
     def patterns(self, watch: Watch, only: Optional[int]) -> Iterator[Pattern]:
         def accepts(line: bytes) -> bool:
-            return touches(line, watch) and only in (None, int(line.split(b" ", 1)[0]))
+            return touches(line, watch) and only in (None, int(hart_of(line)))
 
         for word in WATCH_KINDS[watch.kind][1]:
             if watch.length > FEW:

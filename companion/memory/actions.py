@@ -8,10 +8,11 @@ from typing import Dict, Optional
 from .accesses import Accesses
 from .calls import Calls
 from .checks import Checks
-from .judge import Access, word_of
+from .judge import Access
 from .operation import A0, ALU, AMO, ECALL, JAL, JALR, LOAD, SP, STORE, Operation
-from .state import Act, Hart, nothing, pc_of
+from .state import Act, Hart, nothing
 from .sums import Sums
+from ..recording.cut import pc_of, word_of
 
 FAULT = b"fault"            # the key of a row that ended in a fault
 

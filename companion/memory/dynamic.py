@@ -6,9 +6,10 @@ from __future__ import annotations
 
 from typing import Callable, Optional, Tuple
 
+from ..recording.cut import count_of
 from .facts import Facts
 from .operation import ALU, Operation
-from .state import Asked, Hart, count_of, value_of
+from .state import Asked, Hart, value_of
 
 ROUNDED = 16                # bytes: sp is a multiple of it
 ADDED = ROUNDED - 1         # to a size

@@ -8,12 +8,13 @@ from typing import Dict, List, NamedTuple, Optional, Sequence
 from ..call.errors import MISSING, REFUSED, CompanionError
 from ..call.options import whole
 from ..call.text import clean
+from ..recording.cut import count_of, pc_of
 from ..recording.dwarf import PARAMETER, POINTER
 from .findings import NO_BLOCK, TWICE, Finding, Findings
 from .operation import A0, FULL, RA
 from .program import Program
 from .state import (
-    BESIDE, BLOCK, FREED, FRAME, GLOBAL, GOOD, NULL, UNDEFINED, UNWRITTEN, Awaited, Event, Hart, Memory, Thing, count_of, pc_of)
+    BESIDE, BLOCK, FREED, FRAME, GLOBAL, GOOD, NULL, UNDEFINED, UNWRITTEN, Awaited, Event, Hart, Memory, Thing)
 
 TAKES, CLEARS, RESIZES, GIVES_BACK, STORES = "takes", "takes cleared", "resizes", "gives back", "stores"
 # Of C's functions and of newlib's forms with a structure before: what they do, and which argument is the size (or the

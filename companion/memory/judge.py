@@ -4,6 +4,7 @@ from __future__ import annotations
 import re
 from typing import Hashable, Iterator, List, NamedTuple, Optional
 
+from ..recording.cut import pc_of, word_of
 from ..recording.instruction import NAMES
 from .facts import Facts
 from .findings import (
@@ -13,7 +14,7 @@ from .heap import Heap
 from .operation import ALU, AMO, BRANCH, FULL, JAL, JALR, LOAD, SP, STORE, Operation
 from .state import (
     BESIDE, BLOCK, ENDED, FORBIDDEN, FRAME, FREED, GLOBAL, GOOD, MEMBER, NULL, SAVED, UNDEFINED, UNWRITTEN, Hart, Memory,
-    Thing, pc_of, value_of)
+    Thing, value_of)
 from .value import NUMBER, as_term
 
 # Functions of a library that read whole words, whose other bytes they don't use.
@@ -282,9 +283,3 @@ def distance(access: Access, begin: int, end: int) -> str:
     if access.address + access.size > end:
         return f"{end - access.address} bytes before the end of"
     return f"{access.address - begin} bytes into"
-
-
-def word_of(row: bytes) -> int:
-    """The word of a row's instruction."""
-    text = row.split(b" ", 4)[3]
-    return 0 if text[:1] == b"-" else int(text, 16)

@@ -4,6 +4,7 @@ from __future__ import annotations
 from dataclasses import dataclass
 from typing import Callable, Dict, List, NamedTuple, Optional, Tuple, Union
 
+from ..recording.cut import count_of
 from .operation import A0, CALLER_SAVED, FULL
 
 # Of a byte. What is PARTLY or wholly COPIED are bits that nobody wrote, stored elsewhere.
@@ -221,11 +222,3 @@ def value_of(row: bytes) -> int:
     """What a row wrote into its register."""
     at = row.index(b"=", row.index(b"| ")) + 1
     return int(row[at:at + 8], 16)
-
-
-def count_of(row: bytes) -> int:
-    return int(row.split(b" ", 2)[1])
-
-
-def pc_of(row: bytes) -> int:
-    return int(row.split(b" ", 3)[2], 16)

@@ -7,6 +7,7 @@ from __future__ import annotations
 
 from typing import Iterator, Optional
 
+from ..recording.cut import PC, cut
 from ..recording.turn_ends import turn_lines
 from ..recording.turns import Piece, Pieces, joined
 from .tries import Tries
@@ -64,4 +65,4 @@ class Rounds:
 
 def place_of(line: bytes) -> bytes:
     """The address of the code, with which a row begins behind its hart and count."""
-    return line.split(b" ", 3)[2] if line[:1].isdigit() else b""
+    return cut(line).key[PC] if line[:1].isdigit() else b""

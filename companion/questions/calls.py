@@ -12,6 +12,7 @@ from ..call.options import read_words, whole
 from ..call.text import clean, columns, counted
 from ..recording.answers import place_of, put_found
 from ..recording.chunks import places, row_at
+from ..recording.cut import count_of, cut, hart_of
 from ..recording.elf import Elf
 from ..recording.instruction import JUMP, Instruction
 from ..recording.places import Frame
@@ -201,7 +202,7 @@ class Calls:
         return row_at(text, at + 1) if at >= 0 else self.last.get(hart, b"")
 
     def source_of(self, row: bytes) -> Instruction:
-        key = row.partition(b" | ")[0].split(b" ", 2)[-1]
+        key = cut(row).key
         if key not in self.sources:
             self.sources[key] = Instruction(0, key)
         return self.sources[key]
@@ -231,9 +232,9 @@ class Calls:
                 self.call(chunk, base, calls[place])
 
     def call(self, chunk: Chunk, base: int, arrival: Arrival) -> None:
-        hart, count, _ = chunk.text[arrival.place + 1:arrival.place + HEAD].split(b" ", 2)
-        source, begin = arrival.source, arrival.begin
-        call = Call(hart, int(count), base + arrival.place, begin, source.pc if source else 0, bool(source and not source.call))
+        head = chunk.text[arrival.place + 1:arrival.place + HEAD]
+        hart, source, begin = hart_of(head), arrival.source, arrival.begin
+        call = Call(hart, count_of(head), base + arrival.place, begin, source.pc if source else 0, bool(source and not source.call))
         if begin.inlined:
             if not self.where:
                 self.keep(call)

@@ -10,6 +10,7 @@ from ..call.options import read_words, whole
 from ..call.text import counted, number
 from ..recording.answers import place_of, put_found
 from ..recording.chunks import row_at, rows_between
+from ..recording.cut import PC, cut, told_in
 from ..recording.instruction import NAMES, Instruction
 from ..recording.opened import HIGHEST
 from .reading import Asked, asked_of
@@ -33,14 +34,20 @@ What a hart does while it waits, in a loop that loads but stores and counts noth
 in which they parted in BAD. A log that has lost its beginning can't be compared. Companions show; the program proves."""
 FORM = "compare GOOD BAD ELF [--names ELF] [--source DIR] [--rows N] [--json]"
 MOST_ROWS, LOOKED_BACK, READ_BACK, MOST_FRAMES = 15000000, 4000, 500, 3
+LOADED, STORED = "load ", "store "         # how what a row did begins
 
 
 @dataclass(frozen=True)
 class Row:
-    """A row of a run, and its instruction."""
+    """A row of a run, its instruction, and what it did."""
     count: int
     text: str
     code: Instruction
+    told: List[str]
+
+    def tells(self, begin: str) -> str:
+        """What it did that begins so, or nothing."""
+        return next((each for each in self.told if each.startswith(begin)), "")
 
 
 @dataclass
@@ -63,8 +70,9 @@ class Run:
         if count not in rows and count >= 0:
             for text in rows_between(self.asked.log, self.asked.elf.name, hart, max(0, count - READ_BACK), count + 2):
                 for row in text[1:].split(b"\n"):
-                    head = row.split(b" | ")[0].split(b" ", 2)
-                    rows[int(head[1])] = Row(int(head[1]), row.decode("ascii", "replace"), Instruction(0, head[2]))
+                    _, at, key, _ = cut(row)
+                    said = row.decode("ascii", "replace")
+                    rows[at] = Row(at, said, Instruction(0, key), told_in(said))
         return rows.get(count)
 
 
@@ -141,7 +149,7 @@ def loads_behind(runs: list[Run], lane: Lane, branch: Instruction) -> list[Optio
         wanted.discard(one.code.rd)
         if result_of(one) == result_of(other):
             continue
-        if " | load " in one.text and " | load " in other.text:
+        if one.tells(LOADED) and other.tells(LOADED):
             return [one, other]
         wanted |= {one.code.rs1, one.code.rs2} - {0}
     return [None, None]
@@ -196,13 +204,12 @@ def find_givers(run: Run, at: int, partings: list[Parting]) -> None:
 
 def result_of(row: Row) -> str:
     """What a row put into its register."""
-    found = [told for told in row.text.split(" | ")[1:] if told.startswith(NAMES[row.code.rd] + "=")]
-    return found[0] if found else ""
+    return row.tells(NAMES[row.code.rd] + "=")
 
 
 def loaded(load: Row) -> Variable:
     """The bytes that a row loads."""
-    return Variable("", int(load.text.partition(" | load ")[2][:8], 16), words_type(load.code.width))
+    return Variable("", int(load.tells(LOADED)[len(LOADED):][:8], 16), words_type(load.code.width))
 
 
 def row_lines(title: str, row: Optional[Row], run: Run, found: Parting) -> list[str]:
@@ -232,9 +239,9 @@ def parting_lines(found: Parting, runs: list[Run]) -> list[str]:
 def giver_text(row: str, run: Run) -> str:
     if not row:
         return "no row: it is from the beginning"
-    hart, count, pc = row.split(" ")[:3]
-    did = row.rpartition(" | ")[2] if " | store " in row else f"a read call, {row.rpartition(' | ')[2]}"
-    return f"{hart}:{count} in {run.asked.places.chain([int(pc, 16)], MOST_FRAMES)}: {did}"
+    hart, count, key, _ = cut(row.encode())
+    place, did = run.asked.places.chain([int(key[PC], 16)], MOST_FRAMES), told_in(row)[-1]
+    return f"{hart.decode()}:{count} in {place}: {did if did.startswith(STORED) else 'a read call, ' + did}"
 
 
 def ends(title: str, run: Run) -> list[str]:

@@ -10,7 +10,8 @@ from typing import Iterator, NamedTuple, Optional
 from ..call.errors import NO_INTERVAL, CompanionError
 from ..call.kinds import CORE_HEAD, CORE_HEAD_BYTES, CORE_MARK
 from ..call.text import counted, number
-from ..recording.chunks import count_of, rows_between
+from ..recording.chunks import rows_between
+from ..recording.cut import cut, last_count
 from ..recording.elf import WRITABLE
 from ..recording.instruction import BRANCH, JUMP, NAMES, OP_JALR, Instruction
 from ..recording.log import At, is_fault, no_row
@@ -59,9 +60,9 @@ class Place:
         self.followed.take(text)
         self.followed.go_to(len(text))
         for hart in range(self.asked.log.harts):
-            last = text.rfind(b"\n%d " % hart)
+            last = last_count(text, hart)
             if last >= 0:
-                self.counts[hart] = count_of(text[last:last + 40]) + 1
+                self.counts[hart] = last + 1
 
 
 class State(NamedTuple):
@@ -98,7 +99,7 @@ def state_of(asked: Asked, hart: int, count: int) -> State:
             pc = int(rest[:8], 16)
             break
     else:
-        pc = next_pc(Instruction(0, last.split(b" | ")[0].split(b" ", 2)[2]), registers) if last else registers[0]
+        pc = next_pc(Instruction(0, cut(last).key), registers) if last else registers[0]
     write(registers, last)
     stop = log.ends.get(hart)
     return State(hart, [pc, *registers[1:]], stop.reason if stop and stop.count == count else "")

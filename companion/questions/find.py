@@ -10,6 +10,7 @@ from ..call.options import read_words
 from ..call.text import clean, columns, counted, number
 from ..recording.answers import LONGEST, place_of, put_found
 from ..recording.chunks import rows_with
+from ..recording.cut import PC, cut
 from ..recording.elf import Elf
 from .reading import Asked, asked_of, read
 from .variables import ADDRESS, OFFSET, not_found, symbol_of, variable_of
@@ -63,11 +64,10 @@ class Found:
 
     def take_row(self, row: bytes) -> None:
         self.told, self.total = self.told + 1, self.total + 1
-        head, *told = row.split(b" | ")
-        hart, count, pc, _ = head.split(b" ", 3)
+        hart, count, key, told = cut(row)
         for part in reversed(told):             # memory before registers: a load puts the value there by itself
             if part.endswith(self.needle):
-                self.occurs((hart + b":" + count).decode(), pc, part)
+                self.occurs(f"{hart.decode()}:{count}", key[PC], part)
                 break
 
     def occurs(self, when: str, pc: bytes, part: bytes) -> None:

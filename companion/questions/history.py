@@ -10,6 +10,7 @@ from ..call.options import read_words, whole
 from ..call.text import columns, counted
 from ..recording.answers import place_of, put_found
 from ..recording.chunks import row_at
+from ..recording.cut import cut, hart_of
 from ..recording.instruction import STORE, Instruction
 from ..recording.log import SystemCall
 from ..recording.memory import bytes_of, words_of
@@ -76,7 +77,7 @@ class History:
             if not self.only_changes or self.is_change(change):
                 self.total += 1
                 row = row_at(text, change.place)
-                self.kept.append(Kept(change, row, self.stacks.chunk.top(row[:row.index(b" ")], change.place)))
+                self.kept.append(Kept(change, row, self.stacks.chunk.top(hart_of(row), change.place)))
 
     @property
     def told(self) -> List[Entry]:
@@ -90,7 +91,7 @@ class History:
         return old != new
 
     def entry(self, change: Change, row: bytes, top: Frame) -> Entry:
-        hart, count, key = row.split(b" | ")[0].split(b" ", 2)
+        hart, count, key, _ = cut(row)
         code, base = Instruction(0, key), self.variable.address
         first, end = change.word, change.word + 4
         if change.fill:
@@ -101,7 +102,7 @@ class History:
         first, end = max(first, base), min(end, self.variable.end)
         part = self.part(first - base, end - base)
         old, new = (value_text(part, data, self.asked.name_of) for data in change.values(base + part.at, part.size))
-        return Entry(int(hart), int(count), row.decode("ascii", "replace"), [code.pc, *call_places(top, MOST_FRAMES)], part.path, old, new,
+        return Entry(int(hart), count, row.decode("ascii", "replace"), [code.pc, *call_places(top, MOST_FRAMES)], part.path, old, new,
                      change.fill)
 
     def part(self, first: int, end: int) -> Leaf:

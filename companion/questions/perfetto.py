@@ -6,6 +6,7 @@ import re
 from array import array
 from typing import Any, Iterator
 
+from ..recording.cut import last_count
 from ..recording.log import is_fault
 from .flow import Flow, Open
 from .reading import Asked, read
@@ -54,8 +55,7 @@ class Turns:
         self.turns(text)
         self.waits.take(text)
         for hart, counts in self.order.items():
-            last = text.rfind(b"\n%d " % hart)
-            known = int(text[last:last + 40].split(b" ", 2)[1]) if last >= 0 and counts else -1
+            known = last_count(text, hart) if counts else -1
             while counts and counts[0] <= known:
                 at = text.find(b"\n%d %d " % (hart, counts[0]))
                 self.wanted[hart, counts.pop(0)] = self.rows + text.count(b"\n", 0, at) if at >= 0 else -1

@@ -3,6 +3,7 @@ from __future__ import annotations
 
 from typing import Iterable, Optional
 
+from ..recording.cut import hart_at
 from ..recording.instruction import NAMES
 from ..recording.log import Log
 from .window import Window
@@ -27,8 +28,8 @@ class Registers:
             at = len(text)
             while left and at >= 0:                 # the latest of each hart
                 at = text.rfind(needle, 0, at)
-                hart = text[text.rfind(b"\n", 0, max(0, at)) + 1:][:3].split(b" ")[0]
-                if at >= 0 and hart in left:
+                hart = hart_at(text, at) if at >= 0 else b""
+                if hart in left:
                     left.remove(hart)
                     self.carried[hart, name] = value_at(text, at + len(needle))
 

@@ -5,6 +5,8 @@ from array import array
 from collections import deque
 from typing import Deque, Generator, Iterable, Iterator, NamedTuple
 
+from ..recording.chunks import row_at
+from ..recording.cut import count_of, pc_of
 from ..recording.instruction import AMO, LOAD
 from .waiting import MOST_LOOP, Loops, addresses_of
 
@@ -29,8 +31,8 @@ class Way:
         """Takes rows that are the same in both runs."""
         at = text.rfind(b"\n%d " % self.hart)
         if at >= 0:
-            _, count, pc, _ = text[at + 1:at + 60].split(b" ", 3)
-            self.first, self.before = int(count) + 1, array("I", [int(pc, 16)])
+            row = row_at(text, at + 1)
+            self.first, self.before = count_of(row) + 1, array("I", [pc_of(row)])
 
     def drop(self, rows: int) -> None:
         if rows:

@@ -5,8 +5,9 @@ from collections import deque
 from typing import Deque, Iterator, NamedTuple, Optional
 
 from ..recording.chunks import LOAD, STORE, touching
+from ..recording.cut import last_count, operation_of
 from ..recording.log import READ_CALL, Log, SystemCall
-from ..recording.memory import Bytes, bytes_of, words_of
+from ..recording.memory import Bytes, Memory, bytes_of, words_of
 from .reading import Asked
 from .variables import Variable
 
@@ -46,8 +47,7 @@ class Fills:
         """Those whose rows are in the next chunk, with the places behind their rows' beginnings."""
         found = []
         for hart, fills in self.left.items():
-            last = text.rfind(b"\n%d " % hart)
-            count, at = int(text[last:last + 40].split(b" ", 2)[1]) if last >= 0 else -1, 0
+            count, at = last_count(text, hart), 0
             while fills and fills[0].count <= count:
                 fill = fills.popleft()
                 at = text.find(b"\n%d %d " % (hart, fill.count), at)
@@ -66,10 +66,8 @@ class Words:
         self.variable = variable
         self.first, self.end = variable.address & ~3, (variable.end + 3) & ~3
         self.fills = Fills(asked.log, variable.address, variable.end)
-        self.known: dict[int, Word] = {}
-        for word in words_of(variable.address, variable.size):
-            at_start = asked.is_whole or asked.elf.is_read_only(word)
-            self.known[word] = asked.elf.word(word) or 0 if at_start else None
+        at_start = Memory(asked.elf, asked.is_whole)
+        self.known: dict[int, Word] = {word: at_start.word(word) for word in words_of(variable.address, variable.size)}
         self.unknown = {word for word, value in self.known.items() if value is None}
         self.stores, self.loads = (touching(variable.address, variable.end, kind) for kind in (STORE, LOAD))
         self.is_aligned = variable.size == self.end - self.first
@@ -96,7 +94,7 @@ class Words:
         """Whether the store whose value begins at a place of a text is to the variable."""
         row = text[text.rfind(b"\n", 0, at) + 1:at]
         address = int(row[-9:-1], 16)
-        return address < self.variable.end and self.variable.address < address + WIDTHS.get(row.split(b" ", 5)[4], 4)
+        return address < self.variable.end and self.variable.address < address + WIDTHS.get(operation_of(row), 4)
 
     def around(self, word: int) -> tuple[Word, Word, Word]:
         return self.known.get(word - 4), self.known.get(word), self.known.get(word + 4)

@@ -10,6 +10,7 @@ from typing import Callable, Iterable, Iterator, Optional, Pattern
 from ..call import streams
 from ..call.program import Output
 from ..call.text import number
+from .cut import LONGEST_HEAD, count_of
 from .log import Log, is_fault
 
 CHUNK = 1 << 18             # bytes of a chunk, about
@@ -84,7 +85,7 @@ def rows_between(log: Log, elf_name: str, hart: int, first: int, end: int) -> It
             for text in chunks(log.name, elf_name, "replay", str(hart), str(interval.number)):
                 begin = max(0, text.find(b"\n%d %d " % (hart, first)))
                 behind = text.find(b"\n%d %d " % (hart, end))
-                if count_of(text) + text.count(b"\n") > first and count_of(text) < end:
+                if first_count(text) + text.count(b"\n") > first and first_count(text) < end:
                     yield text[begin:] if behind < 0 else text[begin:behind]
 
 
@@ -94,9 +95,9 @@ def last_rows(log: Log, elf_name: str, most: int) -> dict[int, bytes]:
     return {hart: b"".join(rows_between(log, elf_name, hart, end - most, end)) for hart, end in behind.items()}
 
 
-def count_of(text: bytes) -> int:
-    """The hart's count at the first row."""
-    return int(text.split(b" ", 2)[1])
+def first_count(text: bytes) -> int:
+    """The count of a chunk's first row."""
+    return count_of(text[:LONGEST_HEAD])
 
 
 def places(text: bytes, word: bytes, at: int = 0, end: Optional[int] = None) -> Iterator[int]:

@@ -164,15 +164,13 @@ class Rows:
 
     def text(self, n: int) -> str:
         """A row as `joint` prints it."""
-        ins = self.code_of(n)
-        said = f"{self.hart[n]} {self.count_of(n)} {ins.row}"
+        return " | ".join([f"{self.hart[n]} {self.count_of(n)} {self.code_of(n).row}", *self.told(n)])
+
+    def told(self, n: int) -> list[str]:
+        """What a row did, as it is told there."""
         if self.flags[n] & FAULTS and self.fault:
-            return f"{said} | fault {self.fault.name} {self.fault.value:08x}"
+            return [f"fault {self.fault.name} {self.fault.value:08x}"]
         result, load, store = self.result_of(n), self.load_of(n), self.store_of(n)
-        if result is not None:
-            said += f" | {NAMES[ins.rd]}={result:08x}"
-        if load:
-            said += f" | load {load.address:08x}={load.value:08x}"
-        if store:
-            said += f" | store {store.address:08x}={store.value:08x}"
-        return said
+        said = [f"{NAMES[self.code_of(n).rd]}={result:08x}"] if result is not None else []
+        said += [f"load {load.address:08x}={load.value:08x}"] if load else []
+        return said + ([f"store {store.address:08x}={store.value:08x}"] if store else [])

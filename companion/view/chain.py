@@ -6,6 +6,7 @@ from __future__ import annotations
 
 from typing import Any, Iterable, Mapping, NamedTuple, Sequence
 
+from ..recording.cut import told_in
 from ..why.history import History
 from .data import Page
 
@@ -107,7 +108,8 @@ class Boxes:
             else:                               # the guilty row isn't of the history: only what it did is known
                 self.links.append([at, self.put(self.column(column, next(places)), depth + 1, rank, **self.row(guilty, 1)), kind])
         if row in self.origins:
-            loaded = self.page.rows.text(row).rpartition("load ")[2][:17]
+            load = self.page.rows.access(row)
+            loaded = f"{load.address:08x}={load.value:08x}"
             self.links.append([at, self.put(self.column(column, next(places)), depth + 1, said=self.origins[row], told=loaded), "before"])
         return at
 
@@ -122,9 +124,7 @@ class Boxes:
         return self.columns - 1 if place else column
 
     def told(self, row: int) -> str:
-        text = self.page.rows.text(row)
-        told = text.split(" | ")[1:]
-        return told[-1] if told else text.split(" ", 4)[-1]
+        return told_in(self.page.rows.text(row))[-1]
 
     def row(self, row: int, rows: int) -> dict[str, Any]:
         return {"place": self.page.place_of_row(row), "rows": rows, "at": self.page.point(row), "told": self.told(row)}

@@ -85,7 +85,7 @@ class PageRows:
             if count != expected:
                 window, before = RowWindow(hart, count), -1
                 self.windows.append(window)
-            window.tails.append(self.rows.text(row).partition(" | ")[2])
+            window.tails.append(" | ".join(self.rows.told(row)))
             window.codes.append(self.page.code(self.rows.code[row]))
             if node != before:
                 window.calls.append([count - window.first, self.node(node)])

@@ -4,6 +4,7 @@ from __future__ import annotations
 from typing import Iterable, NamedTuple, Optional
 
 from ..recording.chunks import STORE, chunks, rows_between, touching_any
+from ..recording.cut import cut, last_count
 from ..recording.instruction import Instruction
 from ..recording.log import Log
 from ..recording.recent import LogFile
@@ -56,8 +57,8 @@ class Search:
                 continue                        # an atomic that stored what it loaded gave no value
             begin, end = text.rfind(b"\n", 0, at) + 1, text.find(b"\n", at)
             row = text[begin:len(text) if end < 0 else end]
-            hart, count, key = row.split(b" | ")[0].split(b" ", 2)
-            if int(count) < self.first.get(int(hart), 0):
+            hart, count, key, _ = cut(row)
+            if count < self.first.get(int(hart), 0):
                 address = int(row[-17:-9], 16)
                 mine = wanted & set(range(address, address + Instruction(0, key).width))
                 self.found.update(dict.fromkeys(mine, row))
@@ -74,8 +75,7 @@ class Search:
     def is_done(self, text: bytes) -> bool:
         """Whether each hart has come to the rows that were read."""
         for hart, first in list(self.first.items()):
-            at = text.rfind(b"\n%d " % hart)
-            if at >= 0 and int(text[at:at + 40].split(b" ", 2)[1]) >= first - 1:
+            if last_count(text, hart) >= max(0, first - 1):
                 del self.first[hart]
         return not self.first
 
@@ -104,9 +104,9 @@ def earlier(source: LogFile, elf_name: str, trace: Trace, loads: Iterable[int]) 
 
 
 def store_of(log: Log, elf_name: str, row: bytes, has_calls: bool) -> Earlier:
-    hart, count, key = row.split(b" | ")[0].split(b" ", 2)
-    calls = calls_over(log, elf_name, int(hart), int(count)) if has_calls else []
-    return Earlier(int(hart), int(count), Instruction(0, key), row.decode("ascii", "replace"), calls)
+    hart, count, key, _ = cut(row)
+    calls = calls_over(log, elf_name, int(hart), count) if has_calls else []
+    return Earlier(int(hart), count, Instruction(0, key), row.decode("ascii", "replace"), calls)
 
 
 def calls_over(log: Log, elf_name: str, hart: int, count: int) -> list[int]:

@@ -9,6 +9,7 @@ import unittest
 from common import COMPANION
 
 SYSTEMS = "_exit", "_replace", "_asdict", "_fields"
+PARTING = "split", "rsplit", "partition", "rpartition"
 
 
 def parsed(*names: str) -> ast.Module:
@@ -64,6 +65,15 @@ class Parts(unittest.TestCase):
                         taken = [node.attr]
                     theirs = [each for each in taken if re.match("_[a-z]", each) and each not in SYSTEMS]
                     self.assertFalse(theirs, f"{part}/{name}:{getattr(node, 'lineno', 0)}")
+
+    def test_rows_are_cut_in_one_place(self) -> None:
+        """A row's words stand between blanks, what it did behind bars: only recording/ parts a text by them."""
+        for part in parts():
+            for name in sorted(os.listdir(os.path.join(COMPANION, part))) if part != "recording" else ():
+                for node in ast.walk(parsed(part, name)) if name.endswith(".py") else ():
+                    if isinstance(node, ast.Call) and isinstance(node.func, ast.Attribute) and node.func.attr in PARTING:
+                        by = [each.value for each in node.args[:1] if isinstance(each, ast.Constant)]
+                        self.assertNotIn(by, ([b" "], [" "], [b" | "], [" | "]), f"{part}/{name}:{node.lineno}")
 
     def test_none_stands_outside(self) -> None:
         self.assertEqual(sorted(name for name in os.listdir(COMPANION) if name.endswith(".py")), ["__init__.py", "__main__.py", "library.py"])
