@@ -15,11 +15,9 @@ from ..call.options import read_words, whole
 from ..call.program import NOT_BUILT
 from ..call.text import number
 from ..questions.debugger import PACKAGE, gdb_path
-from ..recording.elf import Elf
 from ..recording.log import Log, asked_row
-from ..recording.naming import named_elf
-from ..recording.opened import HIGHEST
-from ..recording.recent import FIRST_ROWS, open_log
+from ..recording.opened import opened
+from ..recording.recent import FIRST_ROWS
 from .memory import Memory
 from .packets import PacketStream
 from .questions import Questions
@@ -90,20 +88,17 @@ def run_gdb(log_name: str, elf_name: str, options: Mapping[str, str]) -> NoRetur
 def main(words: list[str]) -> int:
     (log_name, elf_name), options = read_words(words, FORM)
     port = whole(options["--port"], 0, 65535, "--port") if "--port" in options else None
-    rows = whole(options["--rows"], 1, HIGHEST, "--rows") if "--rows" in options else 0
     at = asked_row(options["--at"], "--at") if "--at" in options else None
-    with contextlib.ExitStack() as opened:
-        source, elf = opened.enter_context(closing(open_log(log_name))), Elf(elf_name)
-        named_elf(elf, options.get("--names", ""))
+    with opened(log_name, elf_name, options) as asked, contextlib.ExitStack() as ends_with:
         if "--run" in options:
             run_gdb(log_name, elf_name, options)
-        log = source.end(rows, at) if rows else source.whole()
+        log = asked.source.end(asked.rows, at) if asked.rows else asked.source.whole()
         if log.unread:
             streams.say(told_of_rows(log))
-        session = opened.enter_context(closing(begin_session(log, elf_name)))
-        peer = opened.enter_context(wait_for_gdb(port)) if port is not None else None
+        session = ends_with.enter_context(closing(begin_session(log, elf_name)))
+        peer = ends_with.enter_context(wait_for_gdb(port)) if port is not None else None
         ends = (peer.fileno(),) * 2 if peer else (sys.stdin.fileno(), sys.stdout.fileno())
-        server = Server(session, Memory(log, elf, session), PacketStream(*ends, "--trace" in options),
+        server = Server(session, Memory(log, asked.elf, session), PacketStream(*ends, "--trace" in options),
                         Questions(log_name, elf_name, options.get("--names", "")), Reasons(log))
         with contextlib.suppress(EOFError, ConnectionError):    # gdb has left
             server.begin("--end" in options, at)

@@ -2,18 +2,17 @@
 from __future__ import annotations
 
 import os
-import struct
 from pathlib import Path
 from typing import Mapping
 
 from ..call import program, streams
-from ..call.errors import BAD_LOG, CompanionError
 from ..call.files import check_regular
 from ..call.kinds import LOG, TURNS
 from ..call.options import read_words, whole
 from ..call.saving import Target, target
 from ..call.text import counted, number
 from ..recording.book import DIFFERS, check_book
+from ..recording.recent import LogFile
 from .record import ENDS, Quick, last_line, refusal
 
 HELP = """zelkuma again LOG ELF BOOK NEWLOG [--input FILE] [--log-size N] [--interval N]
@@ -39,21 +38,6 @@ FORM = "again LOG ELF BOOK NEWLOG [--input FILE] [--log-size N] [--interval N]"
 LARGEST = 2**64 - 1                     # the program knows the ranges of its settings
 
 
-def settings_of(name: str) -> dict[str, str]:
-    """The settings of `record` by which a log was made, from its head (docs/FORMAT.md)."""
-    with open(name, "rb") as file:
-        head = file.read(60)
-    try:
-        version, harts, interval, limit, size, memory, sets, ways, line = struct.unpack_from("<IIIQIIIII", head, 8)
-        sets2, ways2 = struct.unpack_from("<II", head, 52) if version == 2 else (0, 0)
-    except struct.error:
-        raise CompanionError(f"log: {name} changed while it was read", BAD_LOG)
-    found = {"--format": version, "--harts": harts, "--interval": interval, "--limit": limit, "--log-size": size,
-             "--memory": memory, "--sets": sets, "--ways": ways, "--line": line}
-    found.update({"--sets2": sets2, "--ways2": ways2} if sets2 else {})
-    return {option: str(value) for option, value in found.items()}
-
-
 def record(options: Mapping[str, str], elf: str, book: str, folder: str) -> tuple[str, str, str]:
     """A recording by BOOK's turns, in a folder: its log, its list of turns and its summary."""
     log, new_book, said = (os.path.join(folder, name) for name in ("log", "book", "said"))
@@ -75,7 +59,7 @@ def first_difference(one: str, other: str) -> int:
 
 def ends_of(log: str) -> dict[str, str]:
     """The count, reason and value with which each hart ended that a log has an interval of."""
-    lines = [line.split(" ", 3) for line in program.output("list", log).splitlines()]
+    lines = [line.split(None, 3) for line in program.output("list", log).splitlines()]
     return {hart: end for hart, _, _, end in lines}
 
 
@@ -109,7 +93,7 @@ def main(words: list[str]) -> int:
     check_regular(*read)
     new_log, new_list = target(output, LOG, read), target(output + ".book", TURNS, [*read, output])
     check_book(log, elf, book, [f"--input={name}" for name in source.values()])
-    options = {**settings_of(log), **source, **numbers}
+    options = {**LogFile(log).head.settings(), **source, **numbers}
     with new_log.scratch() as folder:
         made, new_book, summary = record(options, elf, book, folder)
         new_log.take(made)

@@ -202,7 +202,7 @@ def main(words: list[str]) -> int:
     ignored = Ignored.of(given.get("--ignore", ""))
     with opened(log_name, elf_name, given) as found:
         source = found.source
-        races = Races(found.named, found.places).read(source.harts(), log_name, elf_name, most)
+        races = Races(found.named, found.places).read(source.head.harts, log_name, elf_name, most)
         if races.over:
             raise CompanionError(f"races: more than {most} pairs; --max takes up to 1000000", TOO_MANY)
         judged, teller = judge(source, elf_name, races, ignored), Teller(found.named, races.places)

@@ -12,9 +12,9 @@ from ..call.options import read_words, whole
 from ..call.saving import Target, target
 from ..call.text import number
 from ..recording.answers import LONGEST, put_answer
-from ..recording.elf import Elf
+from ..recording.opened import Program
+from ..recording.recent import LogFile
 from ..questions.compare import compared
-from .again import settings_of
 from .record import FAULT, Kind, Plan, RecordWords
 from .shrinking import ShrinkInput, Shrunk, shrink
 from .trials import MOST_KEPT, Count, Ending, Numbers, TrialSearch
@@ -123,8 +123,8 @@ def shrunk(words: RecordWords, plan: Plan, good: Sequence[Target]) -> Shrunk:
     """Shrinks the recording that was saved, in its place, and looks for a run that ends well if it has a place."""
     log, book = words.targets(plan)
     source = {option: value for option, _, value in (word.partition("=") for word in words.options) if option == "--input"}
-    elf = Elf(words.elf)
-    return shrink(ShrinkInput(log.path, book.path, elf, {**settings_of(log.path), **source}, log, book, elf, good=good))
+    options = {**LogFile(log.path).head.settings(), **source}
+    return shrink(ShrinkInput(log.path, book.path, Program(words.elf), options, log, book, good=good))
 
 
 def goods_of(words: RecordWords) -> list[Target]:

@@ -13,12 +13,11 @@ from ..call.saving import target
 from ..recording.answers import put_answer
 from ..recording.book import check_book
 from ..recording.chunks import check_program
-from ..recording.elf import Elf
-from ..recording.log import is_fault, load_log, read_log
-from ..recording.naming import named_elf
+from ..recording.log import is_fault, load_log
+from ..recording.opened import Program
+from ..recording.recent import open_log
 from ..recording.sources import source_folders
 from ..why.facts import asked_byte
-from .again import settings_of
 from .record import RECORD_OPTIONS
 from .same_end import exit_code
 from .shrinking import ShrinkInput, Shrunk, shrink
@@ -67,7 +66,7 @@ def recorded_options(log: str, words: Sequence[str]) -> dict[str, str]:
                       ("--seed", "BOOK has the turns, so --seed can't be given")):
         if name in given:
             raise CompanionError(why, REFUSED)
-    settings = settings_of(read_log(log).name)
+    settings = open_log(log).head.settings()
     for name, value in given.items():
         if name != "--input" and decimal(value) != settings.get(name):
             raise CompanionError(f"{name} is {settings.get(name, 'nothing')} in LOG, not {value}", REFUSED)
@@ -94,9 +93,8 @@ def shrink_order(words: list[str]) -> tuple[Mapping[str, str], Union[Shrunk, Shr
     check_regular(*read)
     targets = target(new_log, LOG, read), target(new_book, TURNS, [*read, new_log])
     check(log, elf_name, book, options, byte is not None)
-    elf = Elf(elf_name)
-    return given, shrink(ShrinkInput(log, book, elf, options, *targets, named_elf(elf, given.get("--names", "")), byte, seconds_of(given),
-                                     folders=source_folders(given)))
+    program = Program(elf_name, given.get("--names", ""), source_folders(given))
+    return given, shrink(ShrinkInput(log, book, program, options, *targets, byte, seconds_of(given)))
 
 
 def shrink_its_input(words: list[str]) -> tuple[Mapping[str, str], Union[Shrunk, ShrunkInput]]:
@@ -108,9 +106,8 @@ def shrink_its_input(words: list[str]) -> tuple[Mapping[str, str], Union[Shrunk,
     place = target(new, INPUT, [log, elf_name, source, given.get("--names", "")])
     check_program(log, elf_name)
     data = input_of(source)
-    elf = Elf(elf_name)
-    return given, shrink_input(Asked(log, elf, options, source, data, place, named_elf(elf, given.get("--names", "")),
-                                     given.get("--says", ""), seconds_of(given), source_folders(given)))
+    program = Program(elf_name, given.get("--names", ""), source_folders(given))
+    return given, shrink_input(Asked(log, program, options, source, data, place, given.get("--says", ""), seconds_of(given)))
 
 
 def input_of(name: str) -> bytes:

@@ -18,7 +18,7 @@ from ..recording.calls import Entries
 from ..recording.cause import cause_of
 from ..recording.elf import Elf
 from ..recording.log import Log, load_log
-from ..recording.naming import places_of
+from ..recording.opened import Program
 from ..recording.ready import ready
 from ..recording.stacks import Stacks
 from ..recording.story import MOST_TOLD, Switch, Teller, lines_by_piece
@@ -43,22 +43,19 @@ class ShrinkInput:
 
     options  those of its recording
     new_log, new_book   where the short one is saved
-    named    the program with its names
+    program  that was recorded, with its names
     byte     of the output that is asked of, or None
     seconds  after which the search ends, or 0
-    good     where log and list of the nearest run that ends well are saved, if it is wanted
-    folders  whose sources are shown, too"""
+    good     where log and list of the nearest run that ends well are saved, if it is wanted"""
     log: str
     book: str
-    elf: Elf
+    program: Program
     options: Mapping[str, str]
     new_log: Target
     new_book: Target
-    named: Elf
     byte: Optional[Byte] = None
     seconds: int = 0
     good: Sequence[Target] = ()
-    folders: Sequence[str] = ()
 
 
 class Shrunk(NamedTuple):
@@ -80,8 +77,8 @@ def shrink(asked: ShrinkInput) -> Shrunk:
         nearest = found.nearest_good() if asked.good and not status else None
         if nearest:
             save(nearest.made, asked.good)
-        with closing(places_of(asked.named, asked.folders)) as places:
-            told = Told(found, made, Teller(asked.named, places), asked)
+        with closing(asked.program) as program:
+            told = Told(found, made, Teller(program.named, program.places), asked)
             said = Shrunk(told.lines(), told.answer(), status, nearest)
     if found.tries.is_ended():
         streams.say("the search was ended before it was done: the list may be longer than it need be")
@@ -127,8 +124,8 @@ def offset_of(log: Log, elf: Elf, byte: Byte) -> int:
 
 def search(asked: ShrinkInput, quick: Quick) -> tuple[Search, Recording, int]:
     """Searches, and saves the recording of the shortest list that is found. A signal ends the search alone: its status."""
-    offset = offset_of(load_log(asked.log), asked.elf, asked.byte) if asked.byte else None
-    tries = Tries(asked.options, Ends(quick, asked.elf, offset), len(os.sched_getaffinity(0)))
+    offset = offset_of(load_log(asked.log), asked.program.elf, asked.byte) if asked.byte else None
+    tries = Tries(asked.options, Ends(quick, asked.program.elf, offset), len(os.sched_getaffinity(0)))
     found = Search(tries, tries.record(pieces_of(Path(asked.book).read_bytes())))
     with Signals(tries, asked.seconds) as signals:
         found.run()
@@ -142,7 +139,7 @@ class Told:
     """What is told of a search."""
 
     def __init__(self, found: Search, made: Recording, teller: Teller, asked: ShrinkInput) -> None:
-        self.found, self.teller, self.asked, elf = found, teller, asked, asked.elf
+        self.found, self.teller, self.asked, elf = found, teller, asked, asked.program.elf
         log = made.read
         self.pieces, self.turns = pieces_of(made.turns()), found.recorded_turns
         lines = lines_by_piece(log, elf.name, self.pieces, min(len(found.core), MOST_TOLD + 1))
@@ -171,7 +168,8 @@ class Told:
     def beside(self, switch: Switch) -> list[str]:
         """The command that opens the row after which a hart stops."""
         row, asked = switch.stopped, self.asked
-        return ["     " + line for line in ready(asked.new_log.path, asked.elf, asked.named, row.hart, row.ic)] if row else []
+        program = asked.program
+        return ["     " + line for line in ready(asked.new_log.path, program.elf, program.named, row.hart, row.ic)] if row else []
 
     def answer(self) -> dict[str, Any]:
         return {"order": self.order(), "pieces": [list(piece) for piece in self.pieces[:LONGEST]],

@@ -13,10 +13,9 @@ from ..call.saving import Target
 from ..call.scratch import Scratch
 from ..call.text import counted, number
 from ..recording.cause import cause_of
-from ..recording.elf import Elf
 from ..recording.log import load_log
 from ..recording.memory import quoted
-from ..recording.naming import places_of
+from ..recording.opened import Program
 from ..triage.bucket import Bucket, bucket_of
 from ..why.analysis import analysed
 from .input_ends import HART, InputEnds, Loop
@@ -34,20 +33,17 @@ class Asked:
     options   those of its recording
     source    the file that it read, and its bytes
     new       where the short one is saved
-    named     the program with its names
+    program   that was recorded, with its names
     says      a text by which the end is told, or nothing
-    seconds   after which the search ends, or 0
-    folders   whose sources are shown, too"""
+    seconds   after which the search ends, or 0"""
     log: str
-    elf: Elf
+    program: Program
     options: Mapping[str, str]
     source: str
     data: bytes
     new: Target
-    named: Elf
     says: str = ""
     seconds: int = 0
-    folders: Sequence[str] = ()
 
 
 class FirstSuspects(NamedTuple):
@@ -71,8 +67,7 @@ class ShrunkInput(NamedTuple):
 
 def suspects_of(log: str, asked: Asked) -> list[str]:
     """The places of the suspects of a fault, likeliest first."""
-    with closing(analysed(log, asked.elf.name, asked.named.name if asked.named is not asked.elf else "",
-                          folders=asked.folders)) as facts:
+    with analysed(log, asked.program.elf.name, asked.program.given) as facts:
         return list(dict.fromkeys(facts.own_where(item.guilty) for item in facts.shown))
 
 
@@ -85,7 +80,7 @@ def first_suspects(made: Recording, asked: Asked) -> Optional[FirstSuspects]:
 
 def begin(asked: Asked, quick: Quick) -> InputSearch:
     """A search whose first recording is that of the whole input, which has to end as LOG."""
-    ends = InputEnds(quick, asked.elf, asked.says.encode("utf-8", "surrogateescape"))
+    ends = InputEnds(quick, asked.program.elf, asked.says.encode("utf-8", "surrogateescape"))
     tries = InputTries(asked.options, ends, len(os.sched_getaffinity(0)))
     made = tries.record(asked.data)
     if made.read.ends[HART] != load_log(asked.log).ends.get(HART):
@@ -109,8 +104,8 @@ def shrink_input(asked: Asked) -> ShrunkInput:
         options = options_of(asked, found)
         found.tries.options = dict(options)
         made = found.tries.record(found.best)
-        with closing(places_of(asked.named, asked.folders)) as places:
-            bucket = bucket_of(cause_of(made.read, asked.elf.name), asked.elf, places)
+        with closing(asked.program) as program:
+            bucket = bucket_of(cause_of(made.read, program.elf.name), program.elf, program.places)
         suspects = None if signals.status else first_suspects(made, asked)
         return ShrunkInput(lines_of(asked, found, made, bucket, suspects), answer_of(asked, found, made, bucket, suspects),
                            signals.status)
@@ -130,7 +125,7 @@ def counts_of(asked: Asked, made: Recording) -> tuple[int, int]:
 def lines_of(asked: Asked, found: InputSearch, made: Recording, bucket: Bucket, suspects: Optional[FirstSuspects]) -> list[str]:
     before, after = counts_of(asked, made)
     options = [f"{name}={value}" for name, value in options_of(asked, found).items()]
-    again = ["zelkuma", "record", *options, f"--input={asked.new.path}", "--", asked.elf.name, "LOG", "BOOK"]
+    again = ["zelkuma", "record", *options, f"--input={asked.new.path}", "--", asked.program.elf.name, "LOG", "BOOK"]
     return [f"{counted(len(asked.data), 'byte')} of input are cut to {number(len(found.best))}, by "
             f"{number(found.tries.count)} recordings; {counted(before, 'instruction')} to {number(after)}",
             f"input: {quoted(found.best)}", f"end: {bucket.line()}", *(suspects.lines() if suspects else []), shlex.join(again)]

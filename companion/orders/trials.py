@@ -14,8 +14,7 @@ from ..call import streams
 from ..call.children import Forked, Process
 from ..call.saving import take_together
 from ..recording.cause import Cause, cause_of_file
-from ..recording.elf import Elf
-from ..recording.places import Places
+from ..recording.opened import Program
 from ..recording.recent import LogFile, exit_code
 from ..triage.bucket import bucket_of
 from .record import DONE, ENDS, FAULT, Kind, Plan, Quick, RecordWords, last_line, refusal
@@ -125,19 +124,17 @@ class Buckets:
     def __init__(self, elf_name: str) -> None:
         self.elf_name = elf_name
         self.lines: dict[Cause, str] = {}
-        self.opened: Optional[tuple[Elf, Places]] = None
+        self.opened: Optional[Program] = None
 
     def line(self, cause: Cause) -> str:
         if cause not in self.lines:
-            if self.opened is None:
-                elf = Elf(self.elf_name)
-                self.opened = elf, Places(elf)
-            self.lines[cause] = bucket_of(cause, *self.opened).line()
+            self.opened = self.opened or Program(self.elf_name, is_silent=True)
+            self.lines[cause] = bucket_of(cause, self.opened.elf, self.opened.places).line()
         return self.lines[cause]
 
     def close(self) -> None:
         if self.opened:
-            self.opened[1].close()
+            self.opened.close()
 
 
 class TrialSearch:

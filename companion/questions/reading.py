@@ -78,5 +78,5 @@ def read(texts: Iterable[bytes], *readers: Reader) -> None:
 def asked_of(log_name: str, elf_name: str, given: Mapping[str, str], keeps_words: bool = False) -> Iterator[Asked]:
     """What a call asks of: its files, --names and --rows. The most rows that can be given are all."""
     with opened(log_name, elf_name, given) as found:
-        most = MOST_ROWS_OF_LARGE if keeps_words and found.source.memory() > LARGE_MEMORY else MOST_ROWS
+        most = MOST_ROWS_OF_LARGE if keeps_words and found.source.head.memory > LARGE_MEMORY else MOST_ROWS
         yield Asked(found.log(most), found.elf, found.named, found.places)

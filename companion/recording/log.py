@@ -12,6 +12,7 @@ from ..call import program
 from ..call.errors import BAD_LOG, NO_INTERVAL, REFUSED, CompanionError
 from ..call.files import check_regular
 from ..call.options import whole
+from .head import VERSION_1, head_of
 
 HEADER, FIRST_LOAD, SC_OK, SC_FAILED, EDGE, END = 1, 2, 3, 4, 5, 6
 SIZES = {HEADER: 146, FIRST_LOAD: 10, SC_OK: 2, SC_FAILED: 2, EDGE: 19, END: 15}
@@ -23,7 +24,7 @@ READ_CALL, WRITE_CALL, FAILED = 63, 64, 1 << 31  # calls, and the least result o
 LONGEST_CALL = 4096                             # bytes that a call moves at most
 MOST_HARTS = 16
 NO_END = ""                                     # the reason of an interval without an End
-HEAD_1, HEAD_2, DIGEST, SEAL = 92, 136, 32, 48  # bytes before the records, of a digest, of what ends a block
+DIGEST, SEAL = 32, 48           # bytes of a digest, and of what ends a block
 # Most records are FirstLoads and Edges: so many that follow each other are passed at once. The sizes are those of SIZES.
 RUNS = re.compile(rb"(?:\x02.{9}){1,1000}|(?:\x05.{18}){1,1000}|\x01.{145}|\x06.{14}|\x03.|\x04.", re.S)
 FIRST_FAULT = 17                                # the number of the first reason that is a fault
@@ -105,24 +106,25 @@ class Log:
         self.edge_runs: list[bytes] = []
         try:
             self.read_records(self.read_head(data))
-        except (struct.error, IndexError, KeyError):
+        except (struct.error, IndexError, KeyError, ValueError):
             raise changed(self.shown)
         self.faulted = any(is_fault(end.reason) for end in self.ends.values())
 
     def read_head(self, data: bytes) -> bytes:
         """Reads the settings; gives the records."""
-        self.version, self.harts, self.length, self.limit, self.size, self.memory = struct.unpack_from("<IIIQII", data, 8)
+        head = head_of(data)
+        self.version, self.harts, self.length, self.limit, self.size, self.memory = head[:6]
+        self.dropped = head.dropped
         if not 1 <= self.harts <= MOST_HARTS:
             raise IndexError(self.harts)        # of so many lists would be made
-        self.dropped = struct.unpack_from("<Q", data, 80 if self.version == 1 else 92)[0]
-        if self.version == 1:
-            return data[HEAD_1:-DIGEST]
+        if self.version == VERSION_1:
+            return data[head.records_at:-DIGEST]
         pieces, end = [], len(data)
-        while end > HEAD_2:                     # sealed blocks, from the last one back
+        while end > head.records_at:            # sealed blocks, from the last one back
             size, = struct.unpack_from("<I", data, end - 36)
             pieces.append(data[end - SEAL - size:end - SEAL])
             end -= size + SEAL
-        if end < HEAD_2:
+        if end < head.records_at:
             raise IndexError(end)               # no block begins there
         return b"".join(reversed(pieces))
 

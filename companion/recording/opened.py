@@ -1,11 +1,13 @@
-"""What most companions are asked of: LOG, ELF and --names, each opened and checked in one place."""
+"""What companions are asked of: LOG, ELF and --names, each opened and checked in one place."""
 from __future__ import annotations
 
 import contextlib
 from contextlib import closing
-from typing import Iterator, Mapping
+from functools import cached_property
+from types import MappingProxyType
+from typing import Iterator, Mapping, Sequence
 
-from ..call.options import whole
+from ..call.options import AND, whole
 from .elf import Elf
 from .log import Log
 from .naming import named_elf, places_of
@@ -15,15 +17,40 @@ from .recent import LogFile, open_log
 from .sources import source_folders
 
 HIGHEST = 1 << 41           # the most rows that can be given: all of any log
+NOTHING: Mapping[str, str] = MappingProxyType({})
 
 
-class Opened:
+class Program:
+    """elf    the recorded program; named: the same with names, if --names gives them"""
+
+    def __init__(self, elf_name: str, names: str = "", folders: Sequence[str] = (), is_silent: bool = False) -> None:
+        """`folders` are those of --source. Unless it is silent, it says if there is no tool for lines."""
+        self.elf, self.folders, self.is_silent = Elf(elf_name), folders, is_silent
+        self.named = named_elf(self.elf, names)
+
+    @property
+    def given(self) -> dict[str, str]:
+        """The options by which it can be opened again."""
+        names = {"--names": self.named.name} if self.named is not self.elf else {}
+        return {**names, **({"--source": AND.join(self.folders)} if self.folders else {})}
+
+    @cached_property
+    def places(self) -> Places:
+        """Its lines, by a tool that runs until `close`."""
+        return Places(self.named, folders=self.folders) if self.is_silent else places_of(self.named, self.folders)
+
+    def close(self) -> None:
+        if "places" in self.__dict__:
+            self.places.close()
+
+
+class Opened(Program):
     """source   the log, checked
-    elf      the recorded program; named: the same with names, if --names gives them
     rows     what --rows says, or 0"""
 
-    def __init__(self, source: LogFile, elf: Elf, named: Elf, places: Places, rows: int) -> None:
-        self.source, self.elf, self.named, self.places, self.rows = source, elf, named, places, rows
+    def __init__(self, source: LogFile, elf_name: str, names: str, folders: Sequence[str], rows: int) -> None:
+        super().__init__(elf_name, names, folders)
+        self.source, self.rows = source, rows
 
     def log(self, most: int) -> Log:
         """The end of the log that has so many rows, or as many as --rows says."""
@@ -36,12 +63,10 @@ class Opened:
 
 
 @contextlib.contextmanager
-def opened(log_name: str, elf_name: str, given: Mapping[str, str]) -> Iterator[Opened]:
+def opened(log_name: str, elf_name: str, given: Mapping[str, str] = NOTHING) -> Iterator[Opened]:
     """`given` are the options of a call."""
     rows = whole(given["--rows"], 1, HIGHEST, "--rows") if "--rows" in given else 0
     folders = source_folders(given)
     with closing(open_log(log_name)) as source:
-        elf = Elf(elf_name)
-        named = named_elf(elf, given.get("--names", ""))
-        with closing(places_of(named, folders)) as places:
-            yield Opened(source, elf, named, places, rows)
+        with closing(Opened(source, elf_name, given.get("--names", ""), folders, rows)) as found:
+            yield found

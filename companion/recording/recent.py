@@ -15,10 +15,11 @@ from typing import Iterator, Optional
 from ..call import program, streams
 from ..call.errors import UNREADABLE, CompanionError
 from ..call.scratch import Scratch
-from .log import END, FIRST_FAULT, HEAD_2, HEADER, REASONS, SEAL, SIZES, At, End, Log, changed, check, load_log, no_row, runs_of
+from .head import DROPPED, DROPPED_AT, LONGEST, VERSION_1, VERSION_2, Head, head_of, read_head
+from .log import END, FIRST_FAULT, HEADER, REASONS, SEAL, SIZES, At, End, Log, changed, check, load_log, no_row, runs_of
 
-VERSION_1, LARGEST_SMALL = 1, 1 << 20   # a file of version 1 that is larger isn't read whole
-SETTINGS, BLOCK = 92, 4096                      # bytes of a head up to its count of dropped records; of a block's records
+LARGEST_SMALL = 1 << 20                         # bytes: a file of version 1 that is larger isn't read whole
+BLOCK = 4096                                    # bytes of a block's records
 FIRST_ROWS, MORE_ROWS = 1000000, 2600000        # are read at first, and if values come from before them
 
 
@@ -42,14 +43,13 @@ class LogFile:
                 raise CompanionError(f"no place for the end of {self.name}: {error.strerror or error}", UNREADABLE)
         return os.path.join(self.folder, name)
 
-    def harts(self) -> int:
-        with open(self.name, "rb") as file:
-            return int.from_bytes(file.read(16)[12:], "little")
-
-    def memory(self) -> int:
-        """How many bytes of memory the run has."""
-        with open(self.name, "rb") as file:
-            return int.from_bytes(file.read(40)[36:], "little")
+    @property
+    def head(self) -> Head:
+        """The settings of the run."""
+        try:
+            return read_head(self.name)
+        except ValueError:
+            raise changed(self.name)
 
     def whole(self) -> Log:
         return load_log(self.name)
@@ -64,7 +64,8 @@ class LogFile:
 
     def end_of_file(self, rows: int, asked: Optional[At]) -> Log:
         with open(self.source, "rb") as file, mmap.mmap(file.fileno(), 0, access=mmap.ACCESS_READ) as data:
-            if struct.unpack_from("<I", data, 8)[0] == VERSION_1:
+            head = head_of(data[:LONGEST])
+            if head.version == VERSION_1:
                 if len(data) <= LARGEST_SMALL:
                     log = self.whole()
                     if log.rows() <= rows:
@@ -73,12 +74,12 @@ class LogFile:
                     program.output("convert", self.name, self.path("converted"))
                 self.source = self.path("converted")
                 return self.end_of_file(rows, asked)
-            last = LastRecords(data, rows, asked)
+            last = LastRecords(data, head, rows, asked)
             if last.asked:
                 raise no_row(self.name, last.asked)
             if not last.unread:
                 return self.whole()
-            sealed = b"".join(sealed_blocks(data[:SETTINGS], last.dropped, last.records()))
+            sealed = b"".join(sealed_blocks(data[:DROPPED_AT[VERSION_2]], last.dropped, last.records()))
         with open(self.path("log"), "wb") as kept:
             kept.write(sealed)
         log = Log(self.path("log"), sealed, self.name, last.unread)
@@ -91,8 +92,8 @@ def exit_code(name: str) -> Optional[int]:
     which isn't checked, doesn't say it."""
     try:
         with open(name, "rb") as file, mmap.mmap(file.fileno(), 0, access=mmap.ACCESS_READ) as data:
-            is_old = struct.unpack_from("<I", data, 8)[0] == VERSION_1
-            ends = Log(name, data[:]).ends if is_old else LastRecords(data, 1, None).last
+            head = head_of(data[:LONGEST])
+            ends = Log(name, data[:]).ends if head.version == VERSION_1 else LastRecords(data, head, 1, None).last
     except (CompanionError, OSError, ValueError, IndexError, KeyError, struct.error):
         return None
     codes = [end.value for end in ends.values() if end.reason == "group"] + [ends[hart].value for hart in (0,) if hart in ends]
@@ -114,7 +115,7 @@ class LastRecords:
     unread   how many bytes come before them; dropped: how many records
     last     {hart: its last End}, wherever that is"""
 
-    def __init__(self, data: mmap.mmap, rows: int, asked: Optional[At]) -> None:
+    def __init__(self, data: mmap.mmap, head: Head, rows: int, asked: Optional[At]) -> None:
         self.most, self.asked = rows, asked
         self.rows = self.unread = self.dropped = 0
         self.ends: dict[int, int] = {}          # {hart: where its interval ends, whose Header comes further back}
@@ -123,12 +124,12 @@ class LastRecords:
         self.seen: set[int] = set()
         self.last: dict[int, End] = {}
         self.pieces: list[bytes] = []
-        harts, end = struct.unpack_from("<I", data, 12)[0], len(data)
-        while end > HEAD_2 and not (self.unread and len(self.last) == harts):
+        begin, end = head.records_at, len(data)
+        while end > begin and not (self.unread and len(self.last) == head.harts):
             before, _, size = struct.unpack_from("<QII", data, end - SEAL)
             end -= SEAL + size
-            self.take_block(data[end:end + size], end - HEAD_2, before)
-        if end < HEAD_2:
+            self.take_block(data[end:end + size], end - begin, before)
+        if end < begin:
             raise IndexError(end)               # no block begins there
 
     def records(self) -> bytes:
@@ -177,7 +178,7 @@ class LastRecords:
 
 def sealed_blocks(settings: bytes, dropped: int, records: bytes) -> Iterator[bytes]:
     """The file of version 2 of some records, in pieces."""
-    head = settings + struct.pack("<QI", dropped, len(records))
+    head = settings + DROPPED.pack(dropped, len(records))
     key, left = hashlib.sha256(head).digest(), len(records)
     yield head + key
     for block, count in blocks_of(records):

@@ -11,9 +11,8 @@ from typing import Iterable, Iterator, NamedTuple, Sequence
 from ..call.errors import MISSING, UNREADABLE, CompanionError
 from ..call.kinds import text_kind
 from ..call.saving import target
+from ..recording.head import LONGEST, MAGIC, program_of
 
-MAGIC, LONGEST_HEAD, DIGEST = b"BUGNETLG", 136, 32
-DIGEST_AT = {1: 48, 2: 60}      # the place of its program's digest in a log's head, by version
 ELF_HEAD = struct.Struct("<6s10xHH")
 A_PROGRAM = b"\x7fELF\1\1", 2, 243              # of 32 bits, that can be run, for RISC-V
 CACHE_BEGINS = '{"zelkuma": "digests of ELF files"'
@@ -50,18 +49,12 @@ def files_below(folders: Iterable[str]) -> Iterator[str]:
             yield from (os.path.join(path, name) for name in sorted(names) if os.path.isfile(os.path.join(path, name)))
 
 
-def program_of(head: bytes) -> str:
-    version, = struct.unpack_from("<I", head.ljust(LONGEST_HEAD, b"\0"), len(MAGIC))
-    at = DIGEST_AT.get(version, LONGEST_HEAD)
-    return head[at:at + DIGEST].hex() if len(head) >= at + DIGEST else ""
-
-
 def find_logs(folders: Sequence[str]) -> Logs:
     found: list[File] = []
     others = 0
     for name in files_below(folders):
         with contextlib.suppress(OSError), open(name, "rb") as file:
-            head = file.read(LONGEST_HEAD)
+            head = file.read(LONGEST)
             if not head.startswith(MAGIC):
                 others += 1
             elif len(found) == MOST_LOGS:

@@ -12,8 +12,7 @@ from ..call import program
 from ..call.errors import BAD_LOG, NO_MEMORY, CompanionError
 from ..call.scratch import Scratch
 from ..recording.cause import cause_of_file
-from ..recording.elf import Elf
-from ..recording.places import Places
+from ..recording.opened import Program
 from ..recording.recent import LogFile, open_log
 from ..why.analysis import analysed
 from ..why.memory_part import MemoryErrors
@@ -70,11 +69,11 @@ class Work:
     """The programs that were opened, each with one addr2line."""
 
     def __init__(self) -> None:
-        self.opened: dict[str, tuple[Elf, Places]] = {}
+        self.opened: dict[str, Program] = {}
 
     def close(self) -> None:
-        for _, places in self.opened.values():
-            places.close()
+        for each in self.opened.values():
+            each.close()
         self.opened.clear()
 
     def answer(self, task: Task) -> Answer:
@@ -108,13 +107,13 @@ class Work:
 
     def bucket_of(self, source: LogFile, elf_name: str, state: str) -> Answer:
         if elf_name not in self.opened:
-            elf = Elf(elf_name)
-            self.opened[elf_name] = elf, Places(elf)
-        bucket = bucket_of(cause_of_file(source, elf_name), *self.opened[elf_name])
-        return Answer(state, "", bucket, source.harts())
+            self.opened[elf_name] = Program(elf_name, is_silent=True)
+        opened = self.opened[elf_name]
+        bucket = bucket_of(cause_of_file(source, elf_name), opened.elf, opened.places)
+        return Answer(state, "", bucket, source.head.harts)
 
     def suspect(self, task: Task) -> Answer:
-        with closing(analysed(task.log, task.elf)) as facts:
+        with analysed(task.log, task.elf) as facts:
             error, words = MemoryErrors(facts).first(), ""
             if facts.shown:
                 first = facts.shown[0]

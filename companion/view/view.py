@@ -7,18 +7,16 @@ import html
 import json
 import os
 import re
-from contextlib import closing
 from pathlib import Path
 from typing import Any, Mapping, Optional, Sequence
 
 from ..call import streams
-from ..call.options import read_words, whole
+from ..call.options import read_words
 from ..call.text import as_text, number
 from ..call.version import version
 from ..orders.race import Judged, family_word, pairs_of
 from ..recording.instruction import NAMES
 from ..recording.races import AccessPair, Group, Races
-from ..recording.sources import source_folders
 from ..recording.story import Story, Teller, asked_story
 from ..why.analysis import Analysis, analysed
 from ..why.facts import asked_byte
@@ -235,10 +233,8 @@ class View:
 
 def main(words: list[str]) -> int:
     (log_name, elf_name), given = read_words(words, FORM)
-    rows = whole(given["--rows"], 1, 1 << 41, "--rows") if "--rows" in given else 0
     byte = asked_byte(given["--output"]) if "--output" in given else None
-    with closing(analysed(log_name, elf_name, given.get("--names", ""), given.get("--row", ""), rows, byte,
-                          source_folders(given))) as crash:
+    with analysed(log_name, elf_name, given, byte) as crash:
         with streams.working("the page is made"):
             view = View(crash, asked_story(given, crash.log, elf_name), "--with-questions" in given)
             text = page_text(view.title(), view.data())

@@ -1,15 +1,15 @@
 """What follows from the facts of a crash: its history, its suspects, and the origins of values."""
 from __future__ import annotations
 
-from typing import Sequence
+import contextlib
+from typing import Iterator, Mapping
 
 from ..call import streams
 from ..recording.calls import entries_of
-from ..recording.elf import Elf
 from ..recording.log import At, Log, asked_row
-from ..recording.naming import named_elf
+from ..recording.opened import NOTHING, Opened, opened
 from ..recording.races import Races
-from ..recording.recent import FIRST_ROWS, MORE_ROWS, LogFile, open_log
+from ..recording.recent import FIRST_ROWS, MORE_ROWS
 from ..recording.trace import Trace, read_trace
 from .control import Control
 from .earlier import earlier
@@ -31,20 +31,19 @@ class Analysis(Facts):
     lines                   the history by source lines
     origin                  what it took from before the rows"""
 
-    def __init__(self, source: LogFile, log: Log, elf: Elf, named: Elf, trace: Trace, row: str = "",
-                 output: Written | None = None, folders: Sequence[str] = ()) -> None:
-        super().__init__(log, elf, named, trace, row, output, folders)
-        self.file = source
+    def __init__(self, asked: Opened, log: Log, trace: Trace, row: str = "", output: Written | None = None) -> None:
+        super().__init__(asked, log, trace, row, output)
+        self.file = asked.source
         if output:
             begin_at_argument(self)
         recursion = find_recursion(trace, self.start)
         loop = self.starts[0 if self.hangs else 1:] + [n for n in recursion.given if n != self.start]
         entered = {one.hart: one.first for one in self.loops}
-        self.history = History(trace, self.starts + loop, control=Control(trace, elf, entered),
+        self.history = History(trace, self.starts + loop, control=Control(trace, self.elf, entered),
                                is_output=output is not None, hangs=self.hangs)
-        self.races = Races(named, self.places)
+        self.races = Races(self.named, self.places)
         if log.harts > 1:
-            self.races.read(log.harts, log.name, elf.name, MOST_RACES)
+            self.races.read(log.harts, log.name, self.elf.name, MOST_RACES)
         self.unordered = self.races.unordered()
         self.lines = self.history.lines(self.places)
         self.suspects = Ranking(self, self.history, self.unordered, recursion.suspects, loop).found
@@ -61,10 +60,6 @@ class Analysis(Facts):
             self.earlier = earlier(self.file, self.elf.name, self.trace, loads)
         self.origin = origins(self, self.history)
 
-    def close(self) -> None:
-        super().close()
-        self.file.close()
-
 
 def leads_into(history: History, log: Log, more: Log) -> bool:
     """Whether rows that more of the log has may tell where values came from: one was loaded, or is in a register that had
@@ -77,39 +72,39 @@ def leads_into(history: History, log: Log, more: Log) -> bool:
     return False
 
 
-def analysed(log_name: str, elf_name: str, names: str = "", row: str = "", rows: int = 0,
-             output: Byte | None = None, folders: Sequence[str] = ()) -> Analysis:
-    """Reads the end of a log, its rows and the names, and analyses them. `names` is a file with names, if ELF has none;
-    `folders` are those of --source. `rows` says how many of the last rows are read, or of those before what is asked of;
-    without it more if values near the start come from before the first."""
-    source = open_log(log_name)
-    try:
-        elf = Elf(elf_name)
-        named, byte = named_elf(elf, names), written(source.whole(), output) if output else None
-        asked = asked_row(row) if row else At(byte.call.hart, byte.call.count) if byte else None
-        entries, most = entries_of(named), rows or FIRST_ROWS
-        size = most
-        log = source.end(most, asked)
-        trace = read_trace(log, elf_name, entries, 2 * most, asked)
-        if (log.unread or trace.rows.passed) and not rows and trace.rows.last:
-            more = source.end(MORE_ROWS, asked)
-            with streams.working("values from before are looked for"):
-                is_short = needs_more(trace, log, more, row, byte)
-            if is_short:
-                del trace                       # it is large
-                size = MORE_ROWS
-                log, trace = more, read_trace(more, elf_name, entries, MORE_ROWS, asked)
-            else:
-                log = source.end(most, asked)
-        with streams.working("what is behind it is looked for"):
-            found = Analysis(source, log, elf, named, trace, row, byte, folders)
-        if found.is_part and not rows:
-            found.find_earlier()
-            source.end(size, asked)             # the file is its log's again
-        return found
-    except BaseException:
-        source.close()
-        raise
+@contextlib.contextmanager
+def analysed(log_name: str, elf_name: str, given: Mapping[str, str] = NOTHING, output: Byte | None = None) -> Iterator[Analysis]:
+    """The analysis of a log by the options of a call: --names, --source, --row and --rows. `output` is a byte that is asked of."""
+    with opened(log_name, elf_name, given) as asked:
+        yield analysis_of(asked, given.get("--row", ""), output)
+
+
+def analysis_of(asked: Opened, row: str, output: Byte | None) -> Analysis:
+    """Reads the end of a log and its rows, and analyses them: as many of the last rows as --rows says, or of those before what
+    is asked of; without it more if values near the start come from before the first."""
+    source = asked.source
+    byte = written(source.whole(), output) if output else None
+    at = asked_row(row) if row else At(byte.call.hart, byte.call.count) if byte else None
+    entries, most = entries_of(asked.named), asked.rows or FIRST_ROWS
+    size = most
+    log = source.end(most, at)
+    trace = read_trace(log, asked.elf.name, entries, 2 * most, at)
+    if (log.unread or trace.rows.passed) and not asked.rows and trace.rows.last:
+        more = source.end(MORE_ROWS, at)
+        with streams.working("values from before are looked for"):
+            is_short = needs_more(trace, log, more, row, byte)
+        if is_short:
+            del trace                           # it is large
+            size = MORE_ROWS
+            log, trace = more, read_trace(more, asked.elf.name, entries, MORE_ROWS, at)
+        else:
+            log = source.end(most, at)
+    with streams.working("what is behind it is looked for"):
+        found = Analysis(asked, log, trace, row, byte)
+    if found.is_part and not asked.rows:
+        found.find_earlier()
+        source.end(size, at)                    # the file is its log's again
+    return found
 
 
 def needs_more(trace: Trace, log: Log, more: Log, row: str, byte: Written | None) -> bool:

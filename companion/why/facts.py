@@ -7,10 +7,10 @@ from typing import NamedTuple, Sequence
 
 from ..call.errors import NO_INTERVAL, CompanionError
 from ..call.options import whole
-from ..recording.elf import Elf
 from ..recording.log import WRITE_CALL, At, Log, SystemCall, asked_row, no_row
 from ..recording.members import Members
-from ..recording.naming import lack_of, places_of
+from ..recording.naming import lack_of
+from ..recording.opened import Program
 from ..recording.places import Frame
 from ..recording.rows import LOADS
 from ..recording.trace import Trace
@@ -55,7 +55,7 @@ class Stack(NamedTuple):
 class Facts:
     """log, elf, trace
     named    the ELF with names (--names), else elf
-    places   functions and lines
+    places   functions and lines, until the program is closed
     start    the row that is asked of: the fault's, what a byte of the output came from, or an exit of a loop
     starts   it, and others that the history begins with
     loops    of the harts that came to their limit; hangs: whether `starts` are of such a loop
@@ -65,16 +65,15 @@ class Facts:
     notes    lines for the end of a report
     earlier  the stores before the rows that were read, of those that were looked for"""
 
-    def __init__(self, log: Log, elf: Elf, named: Elf, trace: Trace, row: str = "", output: Written | None = None,
-                 folders: Sequence[str] = ()) -> None:
+    def __init__(self, program: Program, log: Log, trace: Trace, row: str = "", output: Written | None = None) -> None:
         self.output = output
-        self.log, self.elf, self.named, self.trace, self.asked = log, elf, named, trace, row
+        self.log, self.trace, self.asked = log, trace, row
+        self.elf, self.named, self.places = program.elf, program.named, program.places
         self.rows, self.writers, self.calls = trace
-        self.places = places_of(named, folders)
         self.owns: dict[int, StackFrame | None] = {}
-        self.members = Members(named)
+        self.members = Members(self.named)
         self.earlier: dict[Asked, Earlier] = {}
-        lack = lack_of(named, self.places)
+        lack = lack_of(self.named, self.places)
         self.notes = [lack] if lack else []
         if not trace.rows.last:
             raise CompanionError(f"the log holds no row: the records of a hart's last interval passed its --log-size "
@@ -93,8 +92,6 @@ class Facts:
         self.starts[0] = self.start = row
         self.last = self.rows.last_rows(row, LAST_ROWS)
 
-    def close(self) -> None:
-        self.places.close()
 
     def pc_of(self, n: int) -> int:
         return self.rows.code_of(n).pc

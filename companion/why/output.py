@@ -4,7 +4,6 @@ Which calls wrote, from where and how much is in the log's records. Of its rows 
 written, and calls and returns."""
 from __future__ import annotations
 
-from contextlib import closing
 from typing import Any, Iterable, Iterator, NamedTuple, Optional
 
 from ..call import streams
@@ -14,13 +13,13 @@ from ..call.text import counted, number
 from ..recording.answers import place_of as code_place, put_answer
 from ..recording.calls import entries_of
 from ..recording.chunks import after, chunks, places, touching_any
+from ..recording.cut import count_of, hart_at
 from ..recording.elf import Elf
 from ..recording.instruction import A0
 from ..recording.log import READ_CALL, WRITE_CALL, Log, SystemCall
 from ..recording.memory import Memory, quoted
-from ..recording.opened import opened
+from ..recording.opened import Opened, opened
 from ..recording.places import CALLED_FROM, Places
-from ..recording.recent import open_log
 from ..recording.stacks import Frame, Stacks, call_places
 
 HELP = """Lists what the guest wrote: each write with its row, its place and its text.
@@ -45,13 +44,13 @@ STREAMS = {1: "the output", 2: "err"}
 
 
 class Write(NamedTuple):
-    """A write: its number, its row, the stream, the bytes that it took, the address of its code, and the innermost frame there. A
-    byte is None if it isn't known."""
+    """A write: its number, its call, its row, the stream, the bytes that it took, and the innermost frame there. A byte is None if
+    it isn't known."""
     number: int
+    call: SystemCall
     row: str
     stream: int
     data: list[Optional[int]]
-    pc: int
     top: Frame
 
 
@@ -85,14 +84,14 @@ class Reader:
         at = 0
         for asked in places(text, ASKED):
             begin, end = text.rfind(b"\n", 0, asked) + 1, text.find(b"\n", asked)
-            name, count, _ = text[begin:asked].split(b" ", 2)
-            call = self.calls.get((int(name), int(count)))
+            name = hart_at(text, begin)
+            call = self.calls.get((int(name), count_of(text[begin:asked])))
             if call:
                 self.follow(text, at, begin)
                 at = begin
                 if call in self.numbers:
                     row = text[begin:end if end >= 0 else len(text)].decode("ascii", "replace")
-                    yield Write(self.numbers[call], row, self.a0[name], self.memory.read(call.address, call.size), call.pc,
+                    yield Write(self.numbers[call], call, row, self.a0[name], self.memory.read(call.address, call.size),
                                 self.stacks.chunk.top(name, begin))
                 elif call.kind == READ_CALL:
                     self.fill(call.address, call.address + call.size)
@@ -111,8 +110,8 @@ class Reader:
         left = set(self.a0)
         while left and end >= begin:            # of each hart the latest a0
             end = text.rfind(SET, begin, end)
-            name = text[text.rfind(b"\n", 0, max(end, 0)) + 1:][:3].split(b" ")[0]
-            if end >= 0 and name in left:
+            name = hart_at(text, end) if end >= 0 else b""
+            if name in left:
                 left.remove(name)
                 self.a0[name] = int(text[end + len(SET):end + len(SET) + 8], 16)
 
@@ -135,18 +134,18 @@ def ranges(calls: Iterable[SystemCall]) -> list[tuple[int, int]]:
 def place_of(places: Places, write: Write) -> str:
     """The place of a write, and the calls over it, innermost first. Those of a library, whose source isn't here, are passed
     if others have theirs."""
-    pcs = [write.pc, *call_places(write.top, MOST_LIBRARY_CALLS)]
+    pcs = [write.call.pc, *call_places(write.top, MOST_LIBRARY_CALLS)]
     frames = [frame for pc in pcs for frame in places.frames(pc)]
     own = [frame for frame in frames if frame.line and places.sources.lines(frame.path)]
     told = own if own[:1] == frames[:1] else frames[:1] + own
     told = told[:MOST_FRAMES] if own else frames[:MOST_FRAMES]
-    return CALLED_FROM.join(frame.text() for frame in told) or f"{write.pc:08x}"
+    return CALLED_FROM.join(frame.text() for frame in told) or f"{write.call.pc:08x}"
 
 
 def write_answer(places: Places, write: Write) -> dict[str, Any]:
     """A write for other programs. Bytes are numbers, and null if they aren't known."""
     return {"number": write.number, "stream": write.stream, "bytes": write.data, "row": write.row,
-            "place": code_place(places, write.pc)}
+            "place": code_place(places, write.call.pc)}
 
 
 def numbered(log: Log) -> dict[SystemCall, int]:
@@ -182,11 +181,10 @@ def find_text(writes: Iterable[Write], text: str) -> Found:
     return found
 
 
-def text_in(log_name: str, elf_name: str, text: str, most: int = MOST_ROWS) -> Found:
+def text_in(asked: Opened, text: str, most: int = MOST_ROWS) -> Found:
     """The same by the rows of a log."""
-    with closing(open_log(log_name)) as source:
-        numbers, elf, log = numbered(source.whole()), Elf(elf_name), source.end(most)
-        found = find_text(writes_of(log, elf, Stacks(entries_of(elf), log.harts), numbers, most), text)
+    numbers, log = numbered(asked.source.whole()), asked.source.end(most)
+    found = find_text(writes_of(log, asked.elf, Stacks(entries_of(asked.elf), log.harts), numbers, most), text)
     if not found.times:
         raise CompanionError(f"the last {number(most)} rows wrote no {quoted(list(text.encode()))}: "
                              "`zelkuma output` lists what was written", NO_INTERVAL)
@@ -210,8 +208,7 @@ def main(words: list[str]) -> int:
             if "--json" in given:
                 listed.append(write_answer(found.places, write))
             else:
-                hart, at, _ = write.row.split(" ", 2)
-                beside = found.ready(int(hart), int(at))
+                beside = found.ready(write.call.hart, write.call.count)
                 streams.put(said_of(found.places, write) + "".join(f"     {line}\n" for line in beside))
             count, size, unknown = count + 1, size + len(write.data), unknown + write.data.count(None)
     before = len(numbers) - count

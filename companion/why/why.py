@@ -2,20 +2,19 @@
 from __future__ import annotations
 
 import os
-from contextlib import closing
 from typing import Mapping
 
 from ..call import streams
 from ..call.errors import REFUSED, CompanionError
 from ..call.kinds import PAGE
-from ..call.options import read_words, whole
+from ..call.options import read_words
 from ..call.page import Part, page
 from ..call.saving import target
 from ..call.text import number
 from ..recording.answers import put_answer
-from ..recording.sources import source_folders
+from ..recording.opened import Opened, opened
 from ..recording.story import STORY_HEAD, Teller, asked_story
-from .analysis import Analysis, analysed
+from .analysis import Analysis, analysed, analysis_of
 from .answer import why_answer
 from .facts import Byte, asked_byte, is_byte
 from .memory_part import MemoryErrors
@@ -46,13 +45,13 @@ FORM = "why LOG ELF [--names ELF] [--source DIR] [--row HART:IC] [--output N:BYT
     "[--brief] [--more] [--html FILE] [--json]"
 
 
-def asked_output(text: str, log: str, elf: str) -> tuple[Byte, str]:
+def asked_output(asked: Opened, text: str) -> tuple[Byte, str]:
     """The byte that --output asks of, and a line for the end of the report."""
     if not text:
         raise CompanionError("--output names no text", REFUSED)
     if is_byte(text):
         return asked_byte(text), ""
-    found = text_in(log, elf, text)
+    found = text_in(asked, text)
     times = f"The text was written {number(found.times)} times: this is the last." if found.times > 1 else ""
     return Byte(found.write, found.place), times
 
@@ -65,7 +64,7 @@ def parts_of(analysis: Analysis, errors: MemoryErrors, given: Mapping[str, str])
 
 def brief_of(log: str, elf: str) -> list[str]:
     """The lines of `why --brief`."""
-    with closing(analysed(log, elf)) as analysis:
+    with analysed(log, elf) as analysis:
         return [line for part in parts_of(analysis, MemoryErrors(analysis), {"--brief": ""}) for line in part.text()]
 
 
@@ -73,11 +72,10 @@ def main(words: list[str]) -> int:
     (log, elf), given = read_words(words, FORM)
     if "--brief" in given and "--more" in given:
         raise CompanionError("--brief and --more can't both be given", REFUSED)
-    rows = whole(given["--rows"], 1, 1 << 41, "--rows") if "--rows" in given else 0
-    byte, note = asked_output(given["--output"], log, elf) if "--output" in given else (None, "")
-    names = given.get("--names", "")
-    saved = target(given["--html"], PAGE, [log, elf, names]) if "--html" in given else None
-    with closing(analysed(log, elf, names, given.get("--row", ""), rows, byte, source_folders(given))) as analysis:
+    saved = target(given["--html"], PAGE, [log, elf, given.get("--names", "")]) if "--html" in given else None
+    with opened(log, elf, given) as asked:
+        byte, note = asked_output(asked, given["--output"]) if "--output" in given else (None, "")
+        analysis = analysis_of(asked, given.get("--row", ""), byte)
         analysis.notes += [note] * bool(note)
         story, teller = asked_story(given, analysis.log, elf), Teller(analysis.named, analysis.places)
         parts = [Part(STORY_HEAD, teller.story(story))] if story else []

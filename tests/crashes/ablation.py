@@ -16,7 +16,7 @@ sys.path[:0] = [os.path.join(HERE, "..", "companions", part) for part in ("lib",
 from common import crashes, record                  # noqa: E402
 from companion.why import analysis, facts, locks, memory_use, report, suspects       # noqa: E402
 from companion.why.history import History               # noqa: E402
-from companion.recording.places import Places                 # noqa: E402
+from companion.recording.opened import opened           # noqa: E402
 from crashes_test import FIRST, rank_of              # noqa: E402
 
 AT_ONCE = 2
@@ -106,14 +106,13 @@ def set_all(changes):
     return before
 
 
-def analysed(log, program):
-    return analysis.analysed(log, program.elf, output=facts.asked_byte(program.wrong) if program.wrong else None)
+def analysed(asked, program):
+    return analysis.analysis_of(asked, "", facts.asked_byte(program.wrong) if program.wrong else None)
 
 
 def place(found, program):
     """The guilty line's place among the suspects, or 0."""
     lines = report.suspect_lines(found, report.MORE_SUSPECTS)
-    found.file.close()
     return rank_of(program.guilty, "SUSPECTS\n" + "".join("  %s\n" % line for line in lines) + "END")
 
 
@@ -121,29 +120,32 @@ def tried(given):
     """A program's name and {rule: the guilty line's place}. What no rule changes is done once."""
     name, rules = given
     program = crashes()[name]
-    log = record(name, program.elf, *program.options)
     for module, word in PURE:
         remember(module, word)
     for module, word in FINDERS:
         remember(module, word, copy.deepcopy)
+    with opened(record(name, program.elf, *program.options), program.elf) as asked:
+        return name, without(asked, program, rules)
+
+
+def without(asked, program, rules):
     searches = [(module, word, remember(module, word), getattr(module, word)) for module, word in SEARCHES]
-    first = analysed(log, program)
+    first = analysed(asked, program)
     said = "\n".join(word for item in first.suspects for word in item.why + [extra.words for extra in item.extra])
     got = dict.fromkeys(rules, place(first, program))
     analysis.read_trace = lambda *_given, **_named: first.trace
     first.races.read = nothing
     analysis.Races = lambda *_given: first.races
-    facts.places_of = lambda *_given: first.places
-    Places.close = History.lines = nothing
+    History.lines = nothing
     for rule, (words, changes) in ((rule, RULES[rule]) for rule in rules):
         if changes and words in said:
             before = set_all(changes)
             is_searched = any(word.startswith("history") for word in changes)
             for module, word, new, known in searches:
                 setattr(module, word, new if is_searched else known)
-            got[rule] = place(analysed(log, program), program)
+            got[rule] = place(analysed(asked, program), program)
             set_all(before)
-    return name, got
+    return got
 
 
 def main(words):

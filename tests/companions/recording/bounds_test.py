@@ -74,13 +74,13 @@ class BoundsTest(case.Case):
                 rows = read_trace(end, elf, most=2 * MOST).rows
                 self.assertLessEqual(rows.size, 2 * MOST)
                 self.assertEqual(rows.passed + rows.size, end.rows())
-            with closing(analysed(log, elf)) as crash:
+            with analysed(log, elf) as crash:
                 self.assertLessEqual(crash.rows.size, 2 * MOST)
                 self.assertGreater(crash.log.unread, 0)
 
     def test_a_row_far_back_is_read_with_those_before_it(self):
         log, elf = saved("back", *forever(200, 10000))
-        with closing(analysed(log, elf, row="0:500123")) as crash:
+        with analysed(log, elf, {"--row": "0:500123"}) as crash:
             self.assertEqual(crash.rows.text(crash.start)[:9], "0 500123 ")
             self.assertLessEqual(crash.rows.size, 2 * MOST)
             self.assertGreaterEqual(crash.rows.row_of(0, 500123), MOST)

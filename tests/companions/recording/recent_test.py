@@ -72,13 +72,13 @@ class RecentTest(case.Case):
     def test_why_reads_more_only_if_values_come_from_before(self):
         log, elf = self.record("wild_store", *SMALL), self.elf("wild_store")
         self.small_steps(1000, 20000)
-        with closing(analysed(log, elf)) as crash:
+        with analysed(log, elf) as crash:
             self.assertGreater(crash.log.rows(), 19000)     # the name was stored long before it was used
         self.small_steps(1000, 2000)
-        with closing(analysed(log, elf)) as crash:
+        with analysed(log, elf) as crash:
             self.assertLess(crash.log.rows(), 3000)
             self.assertIn("stored before the rows that were read", str(list(crash.origin)))
-        with closing(analysed(log, elf, rows=10**9)) as crash:
+        with analysed(log, elf, {"--rows": str(10**9)}) as crash:
             self.assertEqual(crash.log.unread, 0)
 
     def test_what_was_not_read_is_said(self):

@@ -95,9 +95,8 @@ class HangTest(case.Case):
         before = analysis.FIRST_ROWS, analysis.MORE_ROWS
         analysis.FIRST_ROWS, analysis.MORE_ROWS = first, more
         try:
-            facts = analysed(log, elf)
-            said = hang_lines(facts, False)
-            facts.close()
+            with analysed(log, elf) as facts:
+                said = hang_lines(facts, False)
         finally:
             analysis.FIRST_ROWS, analysis.MORE_ROWS = before
         self.assertLess(facts.rows.size, 20000)
@@ -151,19 +150,17 @@ class HangTest(case.Case):
     def test_a_loop_that_ends_in_time_is_none(self):
         """The run is stopped in the inner of two loops, which ended in time before: the outer one is told."""
         log, elf = self.crash("hang_width")
-        facts = analysed(log, elf)
-        facts.close()
-        self.assertIn("checksum_of", {facts.places.function(facts.rows.codes[at].pc) for at in facts.loops[0].places})
+        with analysed(log, elf) as facts:
+            self.assertIn("checksum_of", {facts.places.function(facts.rows.codes[at].pc) for at in facts.loops[0].places})
 
     def test_stays_and_exits_are_those_of_the_rows(self):
         for name in HANGS:
             log, elf = self.crash(name)
-            facts = analysed(log, elf)
-            facts.close()
-            rows = rows_of(log, elf)
-            self.assertTrue(facts.loops)
-            for loop in facts.loops:
-                self.check_loop(facts, loop, rows[loop.hart])
+            with analysed(log, elf) as facts:
+                rows = rows_of(log, elf)
+                self.assertTrue(facts.loops)
+                for loop in facts.loops:
+                    self.check_loop(facts, loop, rows[loop.hart])
 
     def check_loop(self, facts, loop, rows):
         since = facts.rows.count_of(loop.first)

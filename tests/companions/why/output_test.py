@@ -4,6 +4,7 @@ import subprocess
 
 import case
 import common
+from companion.recording.log import SystemCall
 from companion.recording.stacks import BOTTOM
 from companion.why.output import Found, Write, find_text
 from recordings import A0, A1, A2, A7, DATA, ECALL, EXIT, FIRST, T0, T1, addi, elf_of, load, lui
@@ -92,7 +93,7 @@ class OutputTest(case.Case):
         self.assertNotIn("printf", said)
 
     def test_a_text_in_pieces(self):
-        writes = [Write(at, "", stream, list(data), 0, BOTTOM)
+        writes = [Write(at, SystemCall(0, at, WRITE, 0, len(data), 0), "", stream, list(data), BOTTOM)
                   for at, (stream, data) in enumerate([(1, b"one tw"), (2, b"two"), (1, b"o"), (1, b" two"), (1, b"")])]
         writes[2].data.append(None)
         self.assertEqual(find_text(writes, "two"), Found(3, 3, 3))

@@ -138,25 +138,23 @@ class WhyTest(case.Case):
     def test_a_counter_is_one_step(self):
         """The way to what a long loop counted from is short, whatever its rounds."""
         log, elf = self.crash("libc_short_packet")
-        facts = analysed(log, elf)
-        facts.close()
-        counted = [n for n in facts.history.cost if facts.rows.code_of(n).counts and facts.rows.code[n] == facts.rows.code[facts.writers.first[n]]]
-        self.assertTrue(counted)
-        for n in counted:
-            before = facts.writers.before_counting(n)
-            self.assertNotEqual(facts.rows.code[before], facts.rows.code[n])
-            self.assertIn(before, [0, *facts.history.cost])
+        with analysed(log, elf) as facts:
+            counted = [n for n in facts.history.cost if facts.rows.code_of(n).counts and facts.rows.code[n] == facts.rows.code[facts.writers.first[n]]]
+            self.assertTrue(counted)
+            for n in counted:
+                before = facts.writers.before_counting(n)
+                self.assertNotEqual(facts.rows.code[before], facts.rows.code[n])
+                self.assertIn(before, [0, *facts.history.cost])
 
     def against_slice(self, name, log, elf):
         """Each row of the program's own slice of the fault is in the history."""
-        facts = analysed(log, elf)
-        facts.close()
-        hart, count = facts.rows.hart[facts.start], facts.rows.count_of(facts.start)
-        interval = next(item for item in facts.log.intervals if item.hart == hart and item.start <= count <= item.end)
-        rows = [line.split() for line in output("slice", log, elf, str(hart), str(interval.number), str(count)).decode().split("\n")
-                if line[:1].isdigit()]
-        missing = [row[:3] for row in rows if facts.rows.row_of(int(row[0]), int(row[1])) not in facts.history.cost]
-        self.check("%s: all %d rows of the slice are in the history" % (name, len(rows)), rows and not missing, missing)
+        with analysed(log, elf) as facts:
+            hart, count = facts.rows.hart[facts.start], facts.rows.count_of(facts.start)
+            interval = next(item for item in facts.log.intervals if item.hart == hart and item.start <= count <= item.end)
+            rows = [line.split() for line in output("slice", log, elf, str(hart), str(interval.number), str(count)).decode().split("\n")
+                    if line[:1].isdigit()]
+            missing = [row[:3] for row in rows if facts.rows.row_of(int(row[0]), int(row[1])) not in facts.history.cost]
+            self.check("%s: all %d rows of the slice are in the history" % (name, len(rows)), rows and not missing, missing)
 
     def test_lost_front(self):
         words = ("--seed", "1", "--log-size", "16384", "--interval", "500", "--sets", "1", "--ways", "1", "--line", "1")
