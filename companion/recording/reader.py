@@ -8,11 +8,11 @@ from array import array
 from binascii import unhexlify
 from itertools import compress
 from operator import itemgetter, ne
-from typing import Dict, Iterable, Iterator, NamedTuple, Optional, Sequence
+from typing import Dict, Iterable, Iterator, Mapping, NamedTuple, Optional, Sequence
 
 from .calls import Calls
 from .chunks import places
-from .instruction import A0, A1, A7, AMO, CALL, JUMP, LOAD, NAMES, STORE, Instruction
+from .instruction import A0, A1, A7, AMO, CALL, JUMP, LOAD, STORE, Instruction
 from .log import FAILED, LONGEST_CALL, READ_CALL
 from .rows import CHANGED, FAULTS, KEEPS, LOADS, OFFSET, STORES, UNSTORED, Fault, ReadCall, Rows
 from .writers import Writers
@@ -22,9 +22,7 @@ from .writers import Writers
 WRITES, GOES, ASKS, TRIES = 1, 2, 16, 32
 NO_REGISTER = 32            # in place of the register of what writes none
 WORD = ~OFFSET
-SPECIAL, RESULT = re.compile(rb"[\x10-\x3f]"), re.compile(rb"\n(\d+) [^|\n]*\| (\w+)=(\w{8})")
-LAST = 1 << 12              # letters of the last rows
-REGISTERS = {name.encode(): register for register, name in enumerate(NAMES)}
+SPECIAL = re.compile(rb"[\x10-\x3f]")
 FAULT = b" | fault "
 KEY, ZERO = 17, b"0" * 8    # letters of an address and a word; the value of what writes no register
 NOTHING = 0, -1             # in place of the row that stored a word last, and its value
@@ -117,15 +115,10 @@ class Reader:
         self.latest: dict[int, tuple[int, int]] = {}
         self.start = 0
 
-    def skip(self, text: bytes) -> None:
-        """Rows that aren't kept: only what they put into registers. Of one hart the last rows tell most, and the rest is looked for."""
-        last = text[-LAST:] if len(self.harts) == 1 else text
-        values = {(hart, name): value for hart, name, value in RESULT.findall(last)}
-        if last is not text:
-            others = b"|".join(REGISTERS.keys() - {name for _, name in values})
-            values.update(((b"0", name), value) for name, value in re.findall(rb"\| (%s)=(\w{8})" % others, text))
-        for (hart, name), value in values.items():
-            self.harts[int(hart)].values[REGISTERS[name]] = int(value, 16)
+    def begin_behind(self, registers: Mapping[int, Sequence[int]]) -> None:
+        """Of each hart the registers before its first row, if rows of it were passed by."""
+        for hart, values in registers.items():
+            self.harts[hart].values = list(values)
 
     def read(self, text: bytes) -> None:
         rows, self.start, lines = self.rows, len(self.rows.code), text[1:].split(b"\n")

@@ -7,6 +7,7 @@ from typing import NamedTuple, Optional
 from .calls import Calls, Entries
 from .chunks import OTHER_LINES, after, chunks
 from .log import At, Log
+from .passed import Passed
 from .reader import Reader
 from .rows import Rows
 from .writers import Writers
@@ -31,8 +32,10 @@ def read_trace(log: Log, elf_name: str, entries: Optional[Entries] = None, most:
     if asked and most and rows > most:
         rows, end = rows_before(log, elf_name, asked), head_of(asked)
     trace.rows.passed = max(0, rows - most) if most else 0
-    reader = Reader(*trace)
-    for text in after(trace.rows.passed, chunks(log.name, elf_name, log=log), reader.skip):
+    reader, passed = Reader(*trace), Passed(log, elf_name)
+    for text in after(trace.rows.passed, chunks(log.name, elf_name, log=log), passed.take):
+        if trace.rows.passed and not reader.start:
+            reader.begin_behind(passed.registers())
         last = text.find(end) if end else -1
         stop = text.find(b"\n", last + 1) if last >= 0 else -1
         reader.read(text if stop < 0 else text[:stop])

@@ -60,6 +60,17 @@ class RecentTest(case.Case):
         self.assertEqual([rows.text(n) for n in range(1, rows.size + 1)], whole[-501:])      # the fault's row isn't counted
         self.assertEqual((rows.passed, rows.is_cut(1)), (len(whole) - 501, True))
 
+    def test_registers_are_known_behind_the_rows_that_are_passed(self):
+        """Those that no kept row wrote, too, whichever interval the first kept row of a hart is in."""
+        for name, words in (("wild_store", ()), ("wild_store", SMALL), ("tills", SMALL + ("--harts", "2")),
+                            ("counter", SMALL + ("--harts", "4", "--limit", "2000"))):
+            log, elf = self.record(name, *words), self.elf(name)
+            with closing(LogFile(log)) as source:
+                whole = read_trace(source.whole(), elf).rows.final
+                for most in (1, 50, 700, 3001):
+                    some = read_trace(source.whole(), elf, most=most).rows
+                    self.assertEqual(some.final, {hart: whole[hart] for hart in some.last}, (name, most))
+
     def test_version_1_is_converted(self):
         log = common.path("version1.log")
         common.output("record", "--format", "1", *SMALL, self.elf("wild_store"), log, common.path("version1.book"))
