@@ -8,6 +8,8 @@ from typing import NamedTuple, Optional
 
 from ..call.errors import BAD_ELF, MISSING, REFUSED, CompanionError
 from ..call.text import clean, counted
+from ..recording.dwarf import FUNCTION as IN_FUNCTION
+from ..recording.dwarf import LOCATION, PARAMETER, VARIABLE, Dwarf
 from ..recording.elf import FUNCTION, Elf, Symbol
 from .debugger import ask_gdb
 from .types import Type, bounded, words_type
@@ -17,6 +19,7 @@ OFFSET = re.compile(r"(.+)\+(\d{1,7})(?::(\d{1,7}))?")
 # A variable and its parts. gdb's own commands, functions and `$` have no place in it.
 PART = re.compile(r"(?:'[\w./\-]+'::)?[\w.]+(?:::\w+)*(?:\.\w+|\[\d+\])*")
 WORD, NEAR = 4, 5
+AN_ADDRESS = 3              # DWARF's operation for one
 MOST_BYTES = 1 << 22        # of a variable: each word of it that is followed takes 250 bytes of memory
 
 
@@ -60,7 +63,7 @@ def variable_of(elf: Elf, name: str) -> Variable:
                 raise CompanionError(f"what DWARF says of {clean(name)} can't be: {counted(variable.size, 'byte')} at "
                                      f"{variable.address:08x}", BAD_ELF)
     if found is None:
-        raise CompanionError(not_found(elf, name, elf.objects), MISSING)
+        raise CompanionError(not_found(elf, name, elf.objects) + of_functions(elf, name), MISSING)
     return Variable(name, found.address, words_type(length(found.size or WORD)))
 
 
@@ -80,6 +83,26 @@ def symbol_of(elf: Elf, name: str) -> Optional[Symbol]:
     """The symbol of a name: of an object, if there is one."""
     found = sorted((item for item in elf.symbols if item.name == name), key=lambda item: item.kind % FUNCTION)
     return found[-1] if found else None
+
+
+def of_functions(elf: Elf, name: str) -> str:
+    """That functions have a variable of a name: how a static one is asked of, and that others have no place of their own."""
+    base = re.split(r"[.\[+:]", name, maxsplit=1)[0]
+    dwarf = Dwarf(elf)
+    statics: set[str] = set()
+    others: set[str] = set()
+    left = [(top, "") for top in dwarf.tops]
+    while left:
+        entry, function = left.pop()
+        if entry.tag in (VARIABLE, PARAMETER) and function and dwarf.name_of(entry) == base:
+            (statics if entry.block(LOCATION)[:1] == bytes([AN_ADDRESS]) else others).add(function)
+        if entry.tag == IN_FUNCTION:
+            function = dwarf.name_of(entry)
+        left += [(each, function) for each in entry.below]
+    said = [f"a function has it: {', '.join(f'{each}::{name}' for each in sorted(statics)[:NEAR])}"] if statics else []
+    if others and not statics:
+        said.append(f"it is local in {', '.join(sorted(others)[:NEAR])}, and has no fixed place: gdb shows it (`zelkuma gdb`)")
+    return "".join(f"; {clean(each)}" for each in said)
 
 
 def not_found(elf: Elf, name: str, among: list[Symbol]) -> str:

@@ -134,11 +134,18 @@ class HistoryTest(case.Case):
         self.assertEqual((entry["hart"], entry["count"], entry["old"], entry["new"]), (0, 154, "00000000", "00011478"))
         self.assertEqual(entry["place"]["line"], 56)
 
+    def test_a_static_variable_of_a_function_is_named(self):
+        log, elf = self.crash("wrong_parcels")
+        said = self.refuses_here(4, history, log, elf, "parcel")
+        name = re.search(r"a function has it: (\w+::parcel)", said)[1]
+        self.assertIn(f"HISTORY of {name} ", self.says("history", log, elf, name))
+
     def test_refusals(self):
         log, elf = self.crash("use_after_free")
         self.assertIn("has no sesions; near it: sessions", self.refuses_here(4, history, log, elf, "sesions"))
         self.assertIn("has no sesions[2].user; near it: sessions", self.refuses_here(4, history, log, elf, "sesions[2].user"))
         self.assertIn("main is a function", self.refuses_here(2, history, log, elf, "main"))
+        self.assertIn("it is local in main, open_session, serve, and has no fixed place", self.refuses_here(4, history, log, elf, "session"))
         self.refuses_here(2, history, log, elf, "00011478:0")
         self.refuses_here(2, history, log, elf, "00011478", "--last", "0")
         self.refuses_here(2, history, log, elf)
