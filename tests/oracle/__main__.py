@@ -22,10 +22,12 @@ from .cases import CASES, Case
 from .machine import Machine
 from .of_calls import ask_calls
 from .of_compare import ask_compare
+from .of_core import ask_core
 from .of_export import ask_export
 from .of_find import ask_find
 from .of_gdb import ask_gdb
 from .of_history import ask_history
+from .of_memory import ask_memory
 from .of_names import ask_bucket, ask_names
 from .of_output import ask_output
 from .of_page import ask_page
@@ -37,7 +39,8 @@ from .program import Program
 TOP = os.path.dirname(os.path.dirname(os.path.dirname(os.path.abspath(__file__))))
 WORDS: Dict[str, Callable[[Asked, random.Random], None]] = {
     "history": ask_history, "calls": ask_calls, "find": ask_find, "export": ask_export, "output": ask_output, "race": ask_race,
-    "why": ask_why, "names": ask_names, "bucket": ask_bucket, "same": ask_same, "page": ask_page, "gdb": ask_gdb}
+    "why": ask_why, "names": ask_names, "bucket": ask_bucket, "same": ask_same, "page": ask_page, "core": ask_core,
+    "memory": ask_memory, "gdb": ask_gdb}
 
 
 def asked_of(given: argparse.Namespace, server: Server, recorded: building.Recorded, tally: Tally, has_gdb: bool) -> Asked:

@@ -20,6 +20,7 @@ GCC, STRIP = "riscv64-unknown-elf-gcc", "riscv64-unknown-elf-strip"
 FLAGS = ["-march=rv32ima", "-mabi=ilp32", "-ffreestanding", "-fno-pic", "-mstrict-align", "-w", "-nostartfiles", "-nodefaultlibs", "-static",
          "-T", os.path.join(HERE, "lib", "program.ld"), "-z", "max-page-size=4096", "-Wl,--build-id=none"]
 OPTIMISED = ("-O0", "-O1", "-O2", "-O3", "-Os", "-Og")
+HEAP = os.path.join(HERE, "lib", "heap.c")      # an allocator
 INPUT = b"abx abacus: a text that is read\n" * 40
 
 
@@ -120,6 +121,14 @@ def drawn_by_csmith(program: str, folder: str, draw: random.Random) -> Recorded:
     return recorded(program, folder, elf, elf, 1, "--seed", "1", "--limit", str(draw.choice([10000, 40000])))
 
 
+def drawn_heap(program: str, folder: str, draw: random.Random) -> Recorded:
+    """A program that takes and gives back memory, with an allocator of its own."""
+    options = [HEAP, "-g", "-fno-builtin", draw.choice(OPTIMISED)]
+    elf = compiled(folder, "heap", sources.drawn_heap_program(draw), *options)
+    small: List[str] = draw.choice([[], [], ["--interval", "700"]])
+    return recorded(program, folder, elf, elf, 1, "--seed", "1", "--limit", "40000", *small)
+
+
 def drawn_own(program: str, folder: str, draw: random.Random) -> Recorded:
     """A program of pieces, compiled and recorded by drawn options."""
     harts = draw.choice([1, 1, 1, 2, 3, 8])
@@ -138,6 +147,8 @@ def drawn(program: str, folder: str, seed: int) -> Recorded:
         return drawn_crash(program, folder, draw)
     if kind < 0.3 and os.path.exists("/usr/include/csmith/csmith.h") and shutil.which("csmith") and has_library():
         return drawn_by_csmith(program, folder, draw)
+    if kind < 0.45:
+        return drawn_heap(program, folder, draw)
     return drawn_own(program, folder, draw)
 
 

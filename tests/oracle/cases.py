@@ -9,10 +9,12 @@ from typing import Callable, NamedTuple, Sequence
 from . import building
 from .asking import Asked
 from .of_calls import ask_calls, ask_condition, ask_function
+from .of_core import ask_core
 from .of_export import ask_export
 from .of_find import ask_find
 from .of_gdb import ask_gdb
 from .of_history import ask_history, ask_variable
+from .of_memory import ask_memory
 from .of_names import ask_bucket, ask_names
 from .of_output import ask_output
 from .of_page import ask_page
@@ -121,7 +123,10 @@ CASES = [
     Case("shop-same", ["-Os", G], [], all_of(ask_same, times=2)),
     Case("shop-page", ["-O1", G], [], all_of(ask_page)),
     Case("shop-gdb", ["-O1", G], [], all_of(ask_gdb)),
-    Case("harts", ["-O2", G], ["--limit", "8000", "--log-size", "16384"], all_of(ask_race, ask_history), harts=4),
+    Case("shop-core", ["-O1", G], [], all_of(ask_core)),
+    Case("read_call-core", ["-O2", G], ["--interval", "50"], all_of(ask_core)),
+    Case("blocks", ["-O1", G, "-fno-builtin", building.HEAP], [], all_of(ask_memory)),
+    Case("harts", ["-O2", G], ["--limit", "8000", "--log-size", "16384"], all_of(ask_race, ask_history, ask_core), harts=4),
     Case("switches", [], ["--seed", "10"], ask_shrink, harts=4, elf="examples/filters.elf"),
     Case("seldom", ["-O1", G], ["--limit", "2000000"], history("rare"), is_big=True),
     Case("sift", ["-O2", G], ["--limit", "2000000"], calls("sift_down"), is_big=True),

@@ -287,3 +287,84 @@ int main(int h, int harts)
 def drawn_program(draw: Draw, harts: int) -> str:
     names = draw.sample(sorted(MAKERS), draw.randrange(3, 8))
     return program(draw, harts, names, draw.choice(sorted(ENDS)))
+
+
+HEAP = """
+void *malloc(word), *calloc(word, word), *realloc(void *, word);
+void free(void *);
+struct node {
+    word value;
+    struct node *next;
+    unsigned char bytes[12];
+};
+static unsigned char *blocks[4];
+static struct node *list;
+static OWN word get(const unsigned char *from, word at)
+{
+    return from[at];
+}
+static OWN void set(unsigned char *to, word at, word value)
+{
+    to[at] = value;
+}
+static OWN word sum(const unsigned char *from, word size)
+{
+    word got = 0;
+    for (word i = 0; i < size; i++)
+        got += from[i];
+    return got;
+}
+static OWN void push(word value)
+{
+    struct node *node = malloc(sizeof *node);
+    node->value = value;
+    node->next = list;
+    list = node;
+}
+static OWN word pop(void)
+{
+    struct node *node = list;
+    word value = node->value;
+    list = node->next;
+    free(node);
+    return value;
+}
+"""
+
+
+def drawn_heap_program(draw: random.Random) -> str:
+    """Blocks that are taken, written, read and given back, most of them rightly."""
+    code, sizes = [f"blocks[{i}] = malloc({4 + 8 * i});" for i in range(4)], [4, 12, 20, 28]
+    lists = 0
+    for _ in range(draw.randrange(10, 60)):
+        i, kind = draw.randrange(4), draw.random()
+        at = draw.randrange(sizes[i])
+        wrong = draw.choice([0, 0, 0, 0, 0, sizes[i], sizes[i] + 3])
+        if kind < 0.2:
+            code.append(f"set(blocks[{i}], {at if not wrong else wrong + draw.randrange(4)}, {draw.randrange(1, 255)});")
+        elif kind < 0.35:
+            code.append(f"got += get(blocks[{i}], {at if not wrong else wrong + draw.randrange(4)});")
+        elif kind < 0.42:
+            code.append(f"if (get(blocks[{i}], {at}) & 1) got++;")
+        elif kind < 0.5:
+            code.append(f"memset(blocks[{i}], {draw.randrange(200)}, {sizes[i]});")
+        elif kind < 0.56:
+            code.append(f"got += sum(blocks[{i}], {sizes[i]});")
+        elif kind < 0.64:
+            code.append(f"push({draw.randrange(1000)});")
+            lists += 1
+        elif kind < 0.7 and lists:
+            code.append("got += pop();")
+            lists -= 1
+        elif kind < 0.8:
+            sizes[i] = draw.randrange(1, 40)
+            code.append(f"blocks[{i}] = {draw.choice(['realloc(blocks[%d], %d)' % (i, sizes[i]), 'calloc(%d, 1)' % sizes[i]])};")
+        elif kind < 0.95:
+            sizes[i] = draw.randrange(1, 40)
+            code.append(f"free(blocks[{i}]);")
+            if draw.random() < 0.15:            # what comes next uses it
+                code.append(draw.choice([f"got += get(blocks[{i}], 0);", f"set(blocks[{i}], 0, 7);", f"free(blocks[{i}]);"]))
+            code.append(f"blocks[{i}] = malloc({sizes[i]});")
+        else:
+            code.append(f"put_number(sum(blocks[{i}], {sizes[i]}));")
+    return HEAD + HEAP + "int main(int hart, int harts)\n{\n    word got = 0;\n    " + "\n    ".join(code) + "\n    put_number(got);\n    return got & 15;\n}\n"
