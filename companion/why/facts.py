@@ -92,7 +92,6 @@ class Facts:
         self.starts[0] = self.start = row
         self.last = self.rows.last_rows(row, LAST_ROWS)
 
-
     def pc_of(self, n: int) -> int:
         return self.rows.code_of(n).pc
 
