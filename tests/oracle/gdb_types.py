@@ -42,6 +42,8 @@ def leaves(found: Any, path: str, at: int, told: List[Any]) -> None:
 
 def variable(name: str) -> Dict[str, Any]:
     place = gdb.parse_and_eval(f"&({name})")
+    if not place.type.target().sizeof:
+        raise ValueError("there is no debug information of it")
     told: List[Any] = []
     leaves(place.type.target(), "", 0, told)
     return {"address": int(place), "size": int(place.type.target().sizeof), "leaves": told, "name": str(place.type.target())}
@@ -65,9 +67,9 @@ def registers_at(address: int) -> Dict[str, str]:
 
 def function(name: str, address: int) -> Dict[str, Any]:
     block = gdb.block_for_pc(address)
-    while block is not None and (block.function is None or int(block.start) != address):
-        block = block.superblock
-    if block is None or block.function.name != name.split(".")[0] or block.function.symtab.filename.endswith((".S", ".s")):
+    while block is not None and (block.function is None or block.function.name != name.split(".")[0]):
+        block = block.superblock                # (what is inlined at its first row has a block of its own)
+    if block is None or int(block.start) != address or block.function.symtab.filename.endswith((".S", ".s")):
         return {}                               # (assembly has no types, whatever DWARF leaves out of it)
     held = registers_at(address)
     parameters = [[each.name, kind_of(each.type), held.get(each.name, "")] for each in block if each.is_argument]

@@ -2,13 +2,13 @@
 from __future__ import annotations
 
 import random
-from typing import Any, Dict, FrozenSet, List, NamedTuple, Tuple
+from typing import Any, Dict, List, NamedTuple, Set, Tuple
 
 from .asking import Asked
 from .machine import Row, lines_of
 
 MOST = 20000
-Key = Tuple[FrozenSet[int], Tuple[str, ...]]
+Places = Tuple[str, ...]
 
 
 class Pair(NamedTuple):
@@ -47,13 +47,15 @@ def ask_race(asked: Asked, _draw: random.Random) -> None:
     if not asked.same("race: pairs", [], told["pairs"], len(true)):
         return
     asked.same("race: pairs of all groups", [], sum(group["pairs"] for group in told["groups"]), len(true))
-    sizes: Dict[Key, int] = {}
+    sizes: Dict[Places, int] = {}
+    words: Dict[Places, Set[int]] = {}          # (a word's pairs are in two groups if fences stand around some of them)
     for group in told["groups"]:
         ask_group(asked, group, true)
-        key = frozenset(int(word, 16) for word in group["words"]), places_of(asked, group)
-        sizes[key] = sizes.get(key, 0) + group["pairs"]
-    for (words, places), size in sizes.items():
-        alike = [pair for pair in true if pair.word in words and tuple(sorted(text_of(asked, row) for row in pair[:2])) == places]
+        places = places_of(asked, group)
+        sizes[places] = sizes.get(places, 0) + group["pairs"]
+        words.setdefault(places, set()).update(int(word, 16) for word in group["words"])
+    for places, size in sizes.items():
+        alike = [pair for pair in true if pair.word in words[places] and tuple(sorted(text_of(asked, row) for row in pair[:2])) == places]
         asked.same("race: pairs of the same places", [], (places, size), (places, len(alike)))
 
 
