@@ -80,8 +80,8 @@ def analysed(log_name: str, elf_name: str, given: Mapping[str, str] = NOTHING, o
 
 
 def analysis_of(asked: Opened, row: str, output: Byte | None) -> Analysis:
-    """Reads the end of a log and its rows, and analyses them: as many of the last rows as --rows says, or of those before what
-    is asked of; without it more if values near the start come from before the first."""
+    """Reads the end of a log and its rows, and analyses them. It reads as many of the last rows as --rows says, or of those before
+    what is asked of. Without --rows they are more if values near the start come from before the first."""
     source = asked.source
     byte = written(source.whole(), output) if output else None
     at = asked_row(row) if row else At(byte.call.hart, byte.call.count) if byte else None

@@ -72,7 +72,7 @@ def along(machine: Machine, numbers: Sequence[int]) -> Iterator[Tuple[int, Dict[
 
 
 def pc_of(machine: Machine, hart: int, number: int) -> Optional[int]:
-    """Where a hart stands before a row: at its next one. At the end, behind its last one, unless that was a jump or ended the hart."""
+    """The address of a hart's next row. It has none at the end: then that behind its last row, unless this was a jump or ended the hart."""
     following = next((row for row in machine.rows[number:] if row.hart == hart), None)
     if following:
         return following.code.pc

@@ -49,7 +49,7 @@ class Allocator:
         self.calls = [(frame, entries[frame.target]) for frame in self.machine.all if frame.target in entries and not self.is_inside(frame.parent, entries)]
         self.entries = entries
         self.blocks: List[Block] = []
-        ends: Dict[int, Tuple[int, Tuple[int, int]]] = {}       # {block's number: where it ends}
+        ends: Dict[int, Tuple[int, Tuple[int, int]]] = {}       # {block's number: the row that ends it, and the call}
         live: Dict[int, int] = {}                               # {address: number}
         for row, is_end, (frame, name) in sorted(self.moments(), key=lambda each: each[:2]):
             self.move(row, is_end, frame, name, live, ends)
@@ -155,8 +155,8 @@ def ask_distance(asked: Asked, what: Tuple[str, str, str], row: Row, block: Bloc
 
 
 def ask_missing(asked: Asked, told: List[Dict[str, Any]], allocator: Allocator) -> None:
-    """An access to a byte that was given back and isn't taken again, or to one behind a block that is no block's, has to be told of its
-    function, by the block that its pointer is for."""
+    """By its address alone an access is wrong if its byte was given back and isn't taken again, or is behind a block and no block's.
+    Then its function has to be told, with whichever block its pointer is for."""
     found = {(each["calls"][0]["function"], each["hart"]) for each in told if each["kind"] in (FREED, OVERFLOW) and each["calls"]}
     seen: Set[Tuple[int, int]] = set()
     for row in asked.machine.rows:
@@ -183,8 +183,8 @@ def what_is_wrong(row: Row, allocator: Allocator) -> str:
 
 
 class Undefined:
-    """rows   those that use a value which can come from a byte of a block or a frame that nobody wrote: a branch, an address, a
-              jump, a call of the system or of an allocator"""
+    """rows   those that use a value, in a branch, an address, a jump, or a call of the system or of an allocator. The value can come
+              from a byte of a block or a frame that nobody wrote."""
 
     def __init__(self, allocator: Allocator) -> None:
         self.allocator, machine = allocator, allocator.machine
