@@ -5,7 +5,7 @@ import os
 import shlex
 from contextlib import closing
 from dataclasses import dataclass
-from typing import Any, Mapping, NamedTuple, Optional, Sequence
+from typing import Any, Mapping, NamedTuple, Optional
 
 from ..call import streams
 from ..call.errors import REFUSED, CompanionError
