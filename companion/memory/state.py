@@ -77,7 +77,7 @@ class Scoped(Thing):
         return self.gone is None and self.begin <= address and address + size <= self.end
 
     def has_ended(self, hart: Hart, pc: int) -> bool:
-        """(Where another hart's function is isn't known, nor behind calls that weren't followed: then nothing is said.)"""
+        """(The place of another hart's function isn't known, nor after calls that weren't followed: then nothing is said.)"""
         if self.gone is not None or hart.number != self.hart:
             return self.gone is not None
         at = pc if len(hart.returns) == self.depth else hart.returns[self.depth] - 4 if len(hart.returns) > self.depth else 0

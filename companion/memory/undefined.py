@@ -68,7 +68,7 @@ class UndefinedBits:
         self.judge, self.program, self.memory = judge, judge.program, judge.memory
 
     def around(self, hart: Hart, one: Operation, act: Act, hook: Optional[Hook]) -> Act:
-        """A row's action while a register has such bits: what depends on them before it, and where they are after it."""
+        """A row's action while a register has such bits: what depends on them before it, and the bytes that have them after it."""
         before = self.before(hart, one, hook)
         is_store, source = one.kind == STORE, one.rs2
 

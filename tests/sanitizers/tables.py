@@ -1,6 +1,6 @@
 """Writes the tables of bench/RESULTS.md that tries.py has results for: tables.py FOLDER.
 
-Each stands behind a line `<!-- tests/sanitizers/tables.py NAME -->`, up to the next empty line."""
+Each follows a line `<!-- tests/sanitizers/tables.py NAME -->`, up to the next empty line."""
 from __future__ import annotations
 
 import json
