@@ -188,7 +188,7 @@ def results(folder: str, only: str) -> Iterator[Dict[str, Any]]:
             except subprocess.TimeoutExpired:
                 ours = {"memory": "takes too long"}
             yield {"test": test.name, "level": level, "kind": test.kind, "lines": sorted(test.lines), **ours,
-                   **({} if test.elf else by_peers(test, folder, level))}
+                   **({} if test.elf or not elf else by_peers(test, folder, level))}
 
 
 def by_peers(test: Test, folder: str, level: str) -> Dict[str, str]:
