@@ -65,7 +65,7 @@ class Recent:
 
 class Judge:
     """made     {address of an instruction that makes a pointer to a part: True}
-    direct   {address of an access whose pointer has to lead into its thing, whatever else is known}
+    limited  {address of an access whose thing an index misses, whatever its register is for}
     anchors  accesses that reach one object by a constant from another one's pointer, as compilers do: nothing is said of them"""
 
     def __init__(self, facts: Facts, memory: Memory, heap: Heap, findings: Findings) -> None:

@@ -14,7 +14,7 @@ from ..call.scratch import Scratch
 from ..recording.cause import cause_of_file
 from ..recording.opened import Program
 from ..recording.recent import LogFile, open_log
-from ..why.analysis import analysed
+from ..why.analysis import Analysis, analysed
 from ..why.memory_part import MemoryErrors
 from ..why.suspect import DID
 from .bucket import Bucket, bucket_of
@@ -114,12 +114,20 @@ class Work:
 
     def suspect(self, task: Task) -> Answer:
         with analysed(task.log, task.elf) as facts:
-            error, words = MemoryErrors(facts).first(), ""
+            words = ""
             if facts.shown:
                 first = facts.shown[0]
                 source = facts.own_source(first.guilty)
                 words = f"{DID[first.kind]} {facts.own_where(first.guilty)}" + (f": {source}" if source else "")
-            return Answer(READ, words, error=error)
+            return Answer(READ, words, error=first_error(facts))
+
+
+def first_error(facts: Analysis) -> str:
+    """The first memory error, or nothing: a log for which that takes too much keeps its suspect."""
+    try:
+        return MemoryErrors(facts).first()
+    except MemoryError:
+        return ""
 
 
 def within(seconds: float, work: Callable[[], T]) -> T:

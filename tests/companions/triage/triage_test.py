@@ -284,6 +284,15 @@ class LimitsTest(unittest.TestCase):
         written(path("odd.log"), content(self.log))
         self.assertEqual([state for state, _ in self.states()], ["read", "read", "unread"])
 
+    def test_memory_errors_that_take_too_much(self):
+        """The suspect is told all the same."""
+        def fails(_facts):
+            raise MemoryError
+
+        self.change(triage_work, "MemoryErrors", fails)
+        answer = triage_work.Work().answer(triage_work.Task(self.log, self.elf, True))
+        self.assertEqual((answer.state, answer.error, answer.words != ""), ("read", "", True))
+
     def test_memory_of_its_own(self):
         work = triage_work.Work()
         self.change(work, "bucket", lambda _task: bytearray(1 << 40))
