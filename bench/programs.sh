@@ -248,7 +248,7 @@ races "4 harts on the same words, more than 1,000,000" 0 20
 
 # The slice of the last row of an interval of a million rows, beside the interval's replay with its text, and what
 # memory it takes beyond that of the replay.
-"$zelkuma" "${record[@]}" "$elf" "$work/LOG" "$work/BOOK" 2>/dev/null
+"$zelkuma" "${record[@]}" --log-size 67108864 "$elf" "$work/LOG" "$work/BOOK" 2>/dev/null
 read -r hart interval rows last < <("$zelkuma" list "$work/LOG" | awk '
     { n = $4 - $3; if (n > most) { most = n; which = $1 " " $2; last = $4 - 1 } }
     END { print which, most, last }')
