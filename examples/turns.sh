@@ -9,6 +9,7 @@
 # the log has of a hart is of its last turns, so the earlier ones are left out.
 set -eu
 zelkuma=$(dirname "$0")/../zelkuma
+[ -x "$zelkuma" ] || zelkuma=zelkuma # installed, the examples lie elsewhere
 {
     "$zelkuma" list "$1" | while read -r hart interval _; do
         "$zelkuma" replay "$1" "$2" "$hart" "$interval"

@@ -21,13 +21,18 @@ def path() -> str:
     named = os.environ.get("ZELKUMA_PROGRAM")
     top = os.path.dirname(PACKAGE)
     found_here = [os.path.join(top, "crates", "bugnet_main", "out", "bugnet_main"), os.path.join(top, "release", "zelkuma-x86_64-linux")]
-    if not os.path.exists(os.path.join(top, "crates.txt")):     # no sources: lib/zelkuma, or a folder of Python's packages
+    has_sources = os.path.exists(os.path.join(top, "crates.txt"))
+    if not has_sources:                         # lib/zelkuma, or a folder of Python's packages
         found_here += [os.path.join(top, "zelkuma") if os.path.basename(top) == "zelkuma" else "", installed()]
     for found in [named] if named else found_here:
         if os.access(found, os.X_OK) and os.path.isfile(found):
             return found
-    what = f"{named} is no program" if named else "the program isn't built"
-    raise CompanionError(f"{what}; `zelkuma build` builds it", NOT_BUILT)
+    if named:
+        raise CompanionError(f"ZELKUMA_PROGRAM is {named}, which is no program", NOT_BUILT)
+    if has_sources:
+        raise CompanionError("the program isn't built; `zelkuma build` builds it", NOT_BUILT)
+    raise CompanionError("the program isn't in this package: install it, so that `zelkuma` is in PATH, or let ZELKUMA_PROGRAM name it; "
+                         "it is release/zelkuma-x86_64-linux of the sources", NOT_BUILT)
 
 
 def installed() -> str:

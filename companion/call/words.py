@@ -9,6 +9,7 @@ from . import streams
 from .advice import advised
 from .errors import MISSING, NO_MEMORY, REFUSED, UNREADABLE, UNWRITABLE, CompanionError
 from .options import near
+from .version import version
 
 HELP = """The companions: they show what the proved program says, in names, lines and pictures.
 
@@ -47,6 +48,9 @@ def run(words: list[str]) -> int:
     if not words or words[0] in ("-h", "--help", "help"):
         streams.put(HELP + "\n\n" + "".join(f"    {word:<7} {what}\n" for word, (_, what) in WORDS.items()))
         return 0 if words else REFUSED
+    if words == ["--version"]:
+        streams.put(f"zelkuma {version()}\n")
+        return 0
     if words[0] not in WORDS:
         raise CompanionError(f"no companion is called {words[0]!r}{near(words[0], WORDS)}: {', '.join(WORDS)}", REFUSED)
     module = importlib.import_module(f"..{WORDS[words[0]][0]}.{words[0]}", __package__)

@@ -6,6 +6,8 @@ import os
 __path__ = [os.path.join(os.path.dirname(os.path.dirname(os.path.dirname(os.path.abspath(__file__)))), "companion")]
 
 from .call.errors import CompanionError      # noqa: E402
+from .call.version import version           # noqa: E402
 from .library import Recording              # noqa: E402
 
 __all__ = ["CompanionError", "Recording"]
+__version__ = version()

@@ -12,6 +12,8 @@ python=$(type -P python3) || skips "calls of companions: python3 isn't here"
 sources=$work/sources
 mkdir -p "$sources/release" "$sources/companion/__pycache__"
 cp -r "$top/"{zelkuma,crates.txt,tools,companion,python} "$sources"
+mkdir "$sources/examples"
+cp -r "$top/examples/"{bare,lib,picolibc} "$sources/examples"
 cp "$top/VERSION" "$sources"
 cp "$top/release/"{STAMP,COMMIT} "$sources/release"
 cp "$program" "$sources/release/zelkuma-x86_64-linux"
@@ -368,7 +370,10 @@ fi
 packs() { # FOLDER UMASK
     mkdir -p "$work/$1"
     cp -r "$sources" "$work/$1/sources"
-    cp -r "$top/"{README.md,CHANGELOG.md,docs,examples,debian} "$work/$1/sources"
+    cp -r "$top/"{README.md,CHANGELOG.md,SECURITY.md,CONTRIBUTING.md,LICENSE,docs,examples,debian} "$work/$1/sources"
+    for place in bench/RESULTS.md bench/MUTANTS.md release/README.md tests/crashes/README.md tests/gdb_suite/base.txt; do
+        install -D -m 644 "$top/$place" "$work/$1/sources/$place"
+    done
     (cd "$work/$1/sources" && umask "$2" && dpkg-buildpackage -us -uc -b >"$work/out" 2>"$work/err") || fails "it isn't built"
 }
 packs one 022
@@ -387,6 +392,10 @@ for name in docs/GUIDE.md examples/launch.json examples/heap.elf README.md CHANG
 done
 root=$work/root
 runs 0 dpkg-deb -x "$package" "$root"
+while IFS=: read -r page link; do
+    [ -e "$root/usr/share/doc/zelkuma/$(dirname "$page")/$link" ] || [ -L "$root/usr/share/doc/zelkuma/$(dirname "$page")/$link" ] ||
+        fails "the link $link of $page leads nowhere"
+done < <(cd "$root/usr/share/doc/zelkuma" && grep -roE --include='*.md' '\]\([^)#: ]+[)#]' . | sed 's/](//; s/[)#]$//')
 works "$root/usr/bin/zelkuma" "$root/usr/lib/zelkuma/zelkuma"
 equals "$program" "$root/usr/lib/zelkuma/zelkuma"
 gzip -dc "$root/usr/$manual.gz" >"$work/page"

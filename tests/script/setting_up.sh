@@ -7,7 +7,8 @@ cp "$top"/tools/{doctor.sh,tools.txt} "$tree/tools"
 cp "$top"/tests/{quick.sh,fresh_start.sh} "$tree/tests"
 printf '#!/bin/bash\n' >"$work/program"
 chmod +x "$work/program"
-mapfile -t scripts < <(sed -n 's/^ *tries \([^ ]*\).*/\1/p' "$tree/tests/quick.sh" | sort -u)
+mapfile -t scripts < <(grep -oE 'tests/[a-z_]+(/[a-z_]+)?\.(sh|py)' "$tree/tests/quick.sh" | grep -vE 'quick\.sh|release|fresh_start' | sort -u)
+scripts+=(tests/oracle/quick.sh)
 what="the scripts"
 [ "${#scripts[@]}" -gt 20 ] || fails "there are ${#scripts[@]} scripts"
 
@@ -84,7 +85,7 @@ wait "$process" || status=$?
 [ "$status" -eq 143 ] || fails "status $status, and not 143"
 has out "not over: tests/script/carry.sh"
 [[ $(tail -n 1 "$work/out") =~ " passed, 0 failed, 0 skipped, 1 not over"$ ]] || fails "another last line"
-! pgrep -f "sleep 613.$$" >/dev/null || fails "a process is left"
+! grep -lzxF "613.$$" /proc/[0-9]*/cmdline >"$work/out" 2>/dev/null || fails "a process is left"
 
 what="the word doctor"
 runs 0 "$top/zelkuma" doctor

@@ -47,3 +47,9 @@ class PipTest(case.Case):
         said = self.output(python, "-c", SCRIPT, log, elf)
         self.assertTrue(said.startswith(folder), said)
         self.assertIn("count=63052, name='LoadOutside'", said)
+        self.assertEqual(self.output(command, "--version"), f"zelkuma {common.version()}\n")
+        self.assertEqual(self.output(python, "-c", "import zelkuma; print(zelkuma.__version__)"), common.version() + "\n")
+        alone = subprocess.run([python, command, "why", log, elf], env={"PATH": "/nowhere"}, stdout=subprocess.PIPE, stderr=subprocess.PIPE,
+                               check=False)
+        self.assertEqual(alone.returncode, 1)
+        self.assertIn(b"the program isn't in this package: install it, so that `zelkuma` is in PATH, or let ZELKUMA_PROGRAM name it", alone.stderr)
