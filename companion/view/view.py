@@ -133,7 +133,7 @@ class View:
             steps.append(self.step("loaded it in", item.load))
         return dict(at=self.page.point(item.guilty), place=self.page.place(self.crash.own_pc(item.guilty)), did=DID[item.kind],
                     load=self.page.point(item.load) if has_load else None, steps=steps, why=item.why, pairs=item.rows,
-                    calledFrom=[f"{frame.function} {frame.place}" for frame in self.crash.callers(item.guilty)])
+                    calledFrom=[frame.text() for frame in self.crash.callers(item.guilty)])
 
     def step(self, words: str, row: int) -> dict[str, Any]:
         told = self.crash.rows.load_of(row)

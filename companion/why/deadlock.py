@@ -135,4 +135,4 @@ def wait_words(facts: Facts, wait: Wait) -> str:
 def place_words(frames: Sequence[StackFrame], others: Sequence[StackFrame]) -> str:
     is_shared = frames[0].function == others[0].function and len(frames) > 1 and frames[0].function
     frame = frames[1 if is_shared else 0]
-    return f"{frame.function} {frame.place}".strip() or f"{frame.address:08x}"
+    return frame.text()

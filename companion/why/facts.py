@@ -44,6 +44,10 @@ class StackFrame(NamedTuple):
     place: str
     inlined: bool
 
+    def text(self) -> str:
+        """The function and FILE:LINE as far as they are known, else the address."""
+        return " ".join(filter(None, (self.function, self.place))) or f"{self.address:08x}"
+
 
 class Stack(NamedTuple):
     """Calls, innermost first; how many are left out before the last one; whether earlier calls are unknown."""
@@ -146,7 +150,7 @@ class Facts:
     def own_where(self, n: int) -> str:
         """The function and FILE:LINE of that frame, or else of the row."""
         frame = self.own(n)
-        return f"{frame.function} {frame.place}" if frame else self.where(n)
+        return frame.text() if frame else self.where(n)
 
     def own_source(self, n: int) -> str:
         frame = self.own(n)

@@ -150,7 +150,7 @@ def did(facts: Analysis, n: int, words: str) -> str:
 
 def guilty_lines(facts: Analysis, n: int) -> list[str]:
     """The calls over a row, and the row."""
-    callers = [f"{frame.function or f'{frame.address:08x}'} {frame.place}".rstrip() for frame in facts.callers(n)]
+    callers = [frame.text() for frame in facts.callers(n)]
     inner = [f"by {facts.where(n)}"] if facts.own(n) and not facts.source(n) else []
     said = inner + ["called from " + CALLED_FROM.join(callers)] * bool(callers)
     return ["      " + ", ".join(said)] * bool(said) + ["      " + short(facts.rows.text(n))]

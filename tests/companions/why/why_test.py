@@ -7,6 +7,7 @@ import subprocess
 import case
 from common import TOP, companion, example, output, path, record, text_of, written
 from companion.why.analysis import analysed
+from companion.why.facts import StackFrame
 
 
 UNLOCKED = "didn't hold the others' lock in"
@@ -134,6 +135,10 @@ class WhyTest(case.Case):
         found = suspects(self.says("why", *self.crash("jump_phase")))
         self.assertIn("chose the way in go_on jump_phase.c:81", found[1])
         self.assertIn("so a word beside what it compared kept its value in run jump_phase.c:87", found[1])
+
+    def test_a_frame_is_told_as_far_as_it_is_known(self):
+        for function, place, said in (("main", "a.c:3", "main a.c:3"), ("main", "", "main"), ("", "", "00010148")):
+            self.assertEqual(StackFrame(0x10148, function, place, False).text(), said)
 
     def test_a_counter_is_one_step(self):
         """The way to what a long loop counted from is short, whatever its rounds."""
