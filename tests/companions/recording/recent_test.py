@@ -71,6 +71,17 @@ class RecentTest(case.Case):
                     some = read_trace(source.whole(), elf, most=most).rows
                     self.assertEqual(some.final, {hart: whole[hart] for hart in some.last}, (name, most))
 
+    def test_a_head_tells_the_settings(self):
+        """Of both versions, with a second level of the caches and without."""
+        own = {"--harts": "2", "--interval": "700", "--limit": "3000", "--log-size": "32768", "--memory": "131072", "--sets": "4",
+               "--ways": "2", "--line": "8"}
+        for more in ({"--format": "1"}, {"--format": "2"}, {"--format": "2", "--sets2": "16", "--ways2": "3"}):
+            given, log = {**own, **more}, common.path("settings.log")
+            words = [word for option in given.items() for word in option]
+            common.output("record", *words, "--seed", "1", self.elf("counter"), log, common.path("settings.book"))
+            with closing(LogFile(log)) as source:
+                self.assertEqual(source.head.settings(), given)
+
     def test_version_1_is_converted(self):
         log = common.path("version1.log")
         common.output("record", "--format", "1", *SMALL, self.elf("wild_store"), log, common.path("version1.book"))
