@@ -33,13 +33,14 @@ from .of_output import ask_output
 from .of_page import ask_page
 from .of_race import ask_race
 from .of_same import ask_same
+from .of_shrink import ask_shrink_seldom
 from .of_why import ask_why
 from .program import Program
 
 TOP = os.path.dirname(os.path.dirname(os.path.dirname(os.path.abspath(__file__))))
 WORDS: Dict[str, Callable[[Asked, random.Random], None]] = {
     "history": ask_history, "calls": ask_calls, "find": ask_find, "export": ask_export, "output": ask_output, "race": ask_race,
-    "why": ask_why, "names": ask_names, "bucket": ask_bucket, "same": ask_same, "page": ask_page, "core": ask_core,
+    "why": ask_why, "names": ask_names, "bucket": ask_bucket, "same": ask_same, "page": ask_page, "core": ask_core, "shrink": ask_shrink_seldom,
     "memory": ask_memory, "gdb": ask_gdb}
 
 

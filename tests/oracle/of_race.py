@@ -7,7 +7,7 @@ from typing import Any, Dict, List, NamedTuple, Set, Tuple
 from .asking import Asked
 from .machine import Row, lines_of
 
-MOST = 20000
+MOST, NEAR, FENCE = 20000, 3, 0x0f        # pairs; instructions between an access and its fence; the opcode
 Places = Tuple[str, ...]
 
 
@@ -77,9 +77,28 @@ def ask_group(asked: Asked, group: Dict[str, Any], true: List[Pair]) -> None:
     asked.same("race: its pair", [], (keys, bool(found)), (keys, True))
     if not found:
         return
-    for end in ends:
-        row = asked.machine.rows[asked.machine.at[end["hart"], end["count"]]]
+    rows = [asked.machine.rows[asked.machine.at[end["hart"], end["count"]]] for end in ends]
+    ask_judged(asked, group, rows)
+    for end, row in zip(ends, rows):
         asked.same("race: row", [], end["row"], row.text)
         asked.same("race: place", [], end["place"], asked.place(row.code.pc))
         if "did" in end:
             asked.same("race: did", [], (end["row"], end["did"]), (row.text, did(row)))
+
+
+def ask_judged(asked: Asked, group: Dict[str, Any], rows: List[Row]) -> None:
+    """What is said of a group beside its pair."""
+    if group["kind"] == "fenced":
+        for row in rows:
+            asked.same("race: beside a fence", [], (row.text, stands_beside_fence(asked, row)), (row.text, True))
+    if "in the function that faulted" in group["judged"]:
+        faulted = {place.function for row in asked.machine.rows if row.fault for place in asked.program.places(row.code.pc)}
+        mine = {place.function for row in rows for place in asked.program.places(row.code.pc)}
+        asked.same("race: in the function that faulted", [], (group["judged"], bool(faulted & mine)), (group["judged"], True))
+
+
+def stands_beside_fence(asked: Asked, row: Row) -> bool:
+    """An atomic, a load with a fence behind it, or a store with one before."""
+    step = -4 if row.store else 4
+    words = [asked.machine.image.word(row.code.pc + step * distance) for distance in range(1, NEAR + 1)]
+    return row.code.name.startswith(("amo", "lr", "sc")) or any(word & 127 == FENCE for word in words)

@@ -4,12 +4,14 @@ from __future__ import annotations
 import itertools
 import json
 import os
+import random
 import subprocess
 from typing import Any, Dict, List, Optional, Sequence, Tuple
 
 from .asking import Asked
 from .machine import Machine
 
+MOST_ROWS, SHARE = 20000, 0.3
 SLACK = 64                  # turns that the last hart may need more for the same end
 Piece = Tuple[int, int]     # a hart, and its turns
 
@@ -69,6 +71,13 @@ def ask_shrink(asked: Asked) -> None:
     asked.same("shrink: order", words, told["order"], " ".join(f"{hart}x{turns}" for hart, turns in orders.pieces))
     for at, switch in enumerate(told["switches"]):
         ask_switch(asked, orders, words, at, switch)
+
+
+def ask_shrink_seldom(asked: Asked, draw: random.Random) -> None:
+    """Of some recordings that a fault ended: each search takes hundreds of recordings."""
+    recorded, rows = asked.recorded, asked.machine.rows
+    if recorded.harts > 1 and recorded.is_whole and any(row.fault for row in rows) and len(rows) < MOST_ROWS and draw.random() < SHARE:
+        ask_shrink(asked)
 
 
 def ask_switch(asked: Asked, orders: Orders, words: Sequence[str], at: int, switch: Dict[str, Any]) -> None:
