@@ -5,11 +5,13 @@ import ast
 import os
 import re
 import unittest
+from typing import Iterator, Tuple
 
 from common import COMPANION
 
 SYSTEMS = "_exit", "_replace", "_asdict", "_fields"
 PARTING = "split", "rsplit", "partition", "rpartition"
+OPENING = "Elf", "Places", "named_elf", "places_of"
 
 
 def parsed(*names: str) -> ast.Module:
@@ -36,6 +38,15 @@ def used(part: str) -> dict[str, str]:
                 for found in [node.module] if node.module else [each.name for each in node.names]:
                     there[found.split(".")[0]] = f"{part}/{name}:{node.lineno}"
     return there
+
+
+def calls_outside(but: str) -> Iterator[Tuple[str, ast.Call]]:
+    """The calls in modules of all parts but one, each with its place."""
+    for part in parts():
+        for name in sorted(os.listdir(os.path.join(COMPANION, part))) if part != but else ():
+            for node in ast.walk(parsed(part, name)) if name.endswith(".py") else ():
+                if isinstance(node, ast.Call):
+                    yield f"{part}/{name}:{node.lineno}", node
 
 
 class Parts(unittest.TestCase):
@@ -68,12 +79,16 @@ class Parts(unittest.TestCase):
 
     def test_rows_are_cut_in_one_place(self) -> None:
         """A row's words stand between blanks, what it did behind bars: only recording/ parts a text by them."""
-        for part in parts():
-            for name in sorted(os.listdir(os.path.join(COMPANION, part))) if part != "recording" else ():
-                for node in ast.walk(parsed(part, name)) if name.endswith(".py") else ():
-                    if isinstance(node, ast.Call) and isinstance(node.func, ast.Attribute) and node.func.attr in PARTING:
-                        by = [each.value for each in node.args[:1] if isinstance(each, ast.Constant)]
-                        self.assertNotIn(by, ([b" "], [" "], [b" | "], [" | "]), f"{part}/{name}:{node.lineno}")
+        for place, node in calls_outside("recording"):
+            if isinstance(node.func, ast.Attribute) and node.func.attr in PARTING:
+                by = [each.value for each in node.args[:1] if isinstance(each, ast.Constant)]
+                self.assertNotIn(by, ([b" "], [" "], [b" | "], [" | "]), place)
+
+    def test_a_program_is_opened_in_one_place(self) -> None:
+        """Its ELF file, --names and lines, which recording/opened.py gives."""
+        for place, node in calls_outside("recording"):
+            if isinstance(node.func, ast.Name):
+                self.assertNotIn(node.func.id, OPENING, place)
 
     def test_none_stands_outside(self) -> None:
         self.assertEqual(sorted(name for name in os.listdir(COMPANION) if name.endswith(".py")), ["__init__.py", "__main__.py", "library.py"])
