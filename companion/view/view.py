@@ -7,10 +7,12 @@ import html
 import json
 import os
 import re
+import sys
 from pathlib import Path
 from typing import Any, Mapping, Optional, Sequence
 
 from ..call import streams
+from ..call.errors import REFUSED, CompanionError
 from ..call.options import read_words
 from ..call.text import as_text, number
 from ..call.version import version
@@ -234,6 +236,8 @@ class View:
 def main(words: list[str]) -> int:
     (log_name, elf_name), given = read_words(words, FORM)
     byte = asked_byte(given["--output"]) if "--output" in given else None
+    if sys.stdout.isatty():
+        raise CompanionError("the page is for a browser, and not for a terminal: zelkuma view LOG ELF >page.html", REFUSED)
     with analysed(log_name, elf_name, given, byte) as crash:
         with streams.working("the page is made"):
             view = View(crash, asked_story(given, crash.log, elf_name), "--with-questions" in given)

@@ -13,6 +13,7 @@ CSRS = {0xc00: "cycle (as rdcycle does)", 0xc01: "time (as rdtime does)", 0xc02:
         0xf14: "mhartid", 0x300: "mstatus", 0x301: "misa", 0x304: "mie", 0x305: "mtvec", 0x340: "mscratch", 0x341: "mepc",
         0x342: "mcause", 0x343: "mtval", 0x344: "mip", 0x001: "fflags", 0x002: "frm", 0x003: "fcsr"}
 OP_FLOAT = 0x07, 0x27, 0x43, 0x47, 0x4b, 0x4f, 0x53
+FENCE_I = 0x100f            # its opcode and kind
 PAGE = 4096                 # nothing below is mapped
 VERBS = {"Load": "loads from", "Store": "stores to", "Fetch": "jumps to", "Target": "jumps to"}
 
@@ -60,6 +61,8 @@ def illegal_words(word: int) -> str:
         return f": it accesses {CSRS.get(csr, f'register {csr:03x}')}, a control and status register"
     if word & 3 != 3 and word:
         return ": it may be a compressed instruction, which -march=rv32ima doesn't make"
+    if word & 0x707f == FENCE_I:
+        return ": it is fence.i, of Zifencei: code can't be written here, so leave it out"
     return ": it is of floating point, which -march=rv32ima doesn't make" if word & 127 in OP_FLOAT else ""
 
 

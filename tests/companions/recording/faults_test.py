@@ -9,6 +9,7 @@ WORDS = {
     0x7c005073: "it accesses register 7c0, a control and status register",
     0x30200073: "it is mret, which is of privileged code",
     0x00010001: "it may be a compressed instruction, which -march=rv32ima doesn't make",
+    0x0000100f: "it is fence.i, of Zifencei: code can't be written here, so leave it out",
     0x00a57553: "it is of floating point, which -march=rv32ima doesn't make",
 }
 

@@ -3,9 +3,11 @@ import array
 import html.parser
 import json
 import os
+import pty
 import re
 import shutil
 import subprocess
+import sys
 import unittest
 
 import case
@@ -203,6 +205,14 @@ class ViewTest(case.Case):
         log = self.record("wild_store", "--seed", "1")
         self.refuses(2, "view", log, self.elf("wild_store"), "--row", "here")
         self.refuses(14, "view", log, self.elf("wild_store"), "--row", "0:99999999")
+
+    def test_no_page_goes_to_a_terminal(self):
+        log = self.record("wild_store", "--seed", "1")
+        ours, theirs = pty.openpty()
+        done = subprocess.run([sys.executable, common.COMPANION, "view", log, self.elf("wild_store")], stdout=theirs, stderr=subprocess.PIPE, check=False)
+        os.close(ours)
+        os.close(theirs)
+        self.assertEqual((done.returncode, done.stderr), (2, b"zelkuma: the page is for a browser, and not for a terminal: zelkuma view LOG ELF >page.html\n"))
 
 
 class HostileTest(case.Case):
