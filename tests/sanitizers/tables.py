@@ -11,7 +11,8 @@ from collections import Counter
 from typing import Any, Callable, Dict, Iterable, List
 
 PAGE = os.path.join(os.path.dirname(os.path.abspath(__file__)), "..", "..", "bench", "RESULTS.md")
-BY = "memory", "AddressSanitizer", "memcheck"
+BY = "memory", "AddressSanitizer", "memcheck"    # the last one isn't asked of all tests
+ENDS = "named", "another line", "not told", "silent", "false"
 SCOPE = "use-after-scope"   # in the names of GCC's tests for it
 Result = Dict[str, Any]
 
@@ -24,8 +25,9 @@ def group_of(one: Result) -> str:
 
 
 def ran(results: Iterable[Result]) -> List[Result]:
-    """Those that each of the three could try, so that they can be compared."""
-    return [one for one in results if all(one.get(by) in ("named", "another line", "not told", "silent", "false") for by in BY)]
+    """Those that all that were asked could try, so that they can be compared."""
+    return [one for one in results
+            if one.get(BY[1]) and all(one.get(by, ENDS[0]) in ENDS for by in BY)]
 
 
 def row(*cells: object) -> str:
@@ -41,8 +43,8 @@ def errors(results: List[Result]) -> str:
     for name in ("GCC", "GCC, a variable used after its block", "memcheck", "fresh"):
         bad = [one for one in results if group_of(one) == name and one["kind"]]
         tried = ran(bad)
-        ends = [[sum(one[by] == end for one in tried) for end in ("named", "another line", "not told")] for by in BY]
-        rows.append(row(name, len(tried), len(bad) - len(tried), *(" / ".join(map(str, each)) for each in ends)))
+        ends = [[sum(one.get(by) == end for one in tried) for end in ENDS[:3]] for by in BY]
+        rows.append(row(name, len(tried), len(bad) - len(tried), *(" / ".join(map(str, each)) if any(each) else "-" for each in ends)))
     return table("| tests with an error, named / another line / not told | tried | not built by all | `memory` | AddressSanitizer | memcheck |",
                  rows)
 
@@ -53,7 +55,7 @@ def good(results: List[Result]) -> str:
         without = [one for one in results if group_of(one).startswith(name) and not one["kind"]]
         tried = ran(without)
         rows.append(row(name, len(tried), len(without) - len(tried),
-                        *(sum(one[by] == "false" for one in tried) for by in BY)))
+                        *(sum(one[by] == "false" for one in tried) if all(by in one for one in tried) else "-" for by in BY)))
     return table("| tests without an error | tried | not built by all | told by `memory` | AddressSanitizer | memcheck |", rows)
 
 

@@ -192,7 +192,10 @@ def results(folder: str, only: str) -> Iterator[Dict[str, Any]]:
 
 
 def by_peers(test: Test, folder: str, level: str) -> Dict[str, str]:
-    told = {"AddressSanitizer": peers.by_sanitizer(test, folder, level), "memcheck": peers.by_memcheck(test, folder, level)}
+    """(memcheck takes longest by far, and GCC's tests are mostly of stacks and globals, which it can't see.)"""
+    told = {"AddressSanitizer": peers.by_sanitizer(test, folder, level)}
+    if not test.name.startswith("gcc/"):
+        told["memcheck"] = peers.by_memcheck(test, folder, level)
     return {name: end_of(test, *each) if each else "doesn't build" for name, each in told.items()}
 
 
