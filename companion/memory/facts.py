@@ -100,6 +100,7 @@ class Flow:
         self.jump: Optional[State] = None       # what all computed jumps agree on
         self.left = STEPS_EACH * len(self.code)
         self.shared = self.shared_words()
+        self.variables = self.program.pointers_in_registers(function.first)
 
     def run(self) -> None:
         self.begin(self.function.first, self.entry_state())
@@ -157,6 +158,8 @@ class Flow:
         while pc in self.code:
             one = self.operations[pc]
             self.left -= 1
+            for register, kind in self.variables.get(pc, ()):
+                state.setdefault(register, Value(POINTER, 0, False, kind))
             one.known, one.base, one.other, one.stack = True, state.get(one.rs1), state.get(one.rs2), state.get(SP)
             self.take(one, state)
             if one.kind == BRANCH or one.kind == JAL and not one.rd:

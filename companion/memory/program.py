@@ -10,6 +10,7 @@ from ..recording.dwarf import (
     BLOCK, FRAME_BASE, FUNCTION, HIGH, INLINED, LOCATION, LONGEST_NAME, LOW, PARAMETER, VARIABLE, Entry, dwarf_of, signed)
 from ..recording.elf import FUNCTION as FUNCTION_SYMBOL
 from ..recording.elf import Elf, Symbol
+from ..recording.locations import locations
 from ..recording.types import Types
 
 LIBRARY = re.compile(r"picolibc|newlib|/libc/|libgcc|tinystdio|musl|glibc")      # in the path of a library's source
@@ -20,6 +21,7 @@ CFA, FBREG, ADDRESS = b"\x9c", 0x91, 3          # DWARF's operations for a frame
 LONGEST_FUNCTION = 65536    # bytes that are analysed
 DEEPEST_BLOCK = 60          # blocks in blocks
 REGISTERS = 8               # that hold arguments
+MOST_LOCATIONS = 1 << 20    # of all functions' variables: forged ones could share a long list
 
 
 class Function(NamedTuple):
@@ -58,6 +60,7 @@ class Program:
         self.types = Types(self.dwarf)
         self.objects = sorted(Object(each.address, each.address + each.size, each.name) for each in elf.objects if each.size)
         self.object_begins = [each.begin for each in self.objects]
+        self.left_locations = MOST_LOCATIONS
         self.symbols: dict[int, Symbol] = {}
         for each in elf.functions:
             if elf.is_code(each.address) and not each.name.startswith(".L"):
@@ -150,6 +153,22 @@ class Program:
     @cached_property
     def kept_locals(self) -> dict[int, list[Local]]:
         return {}
+
+    def pointers_in_registers(self, first: int) -> dict[int, list[tuple[int, int]]]:
+        """{address in a function: the registers that get a variable there that points to a structure, and the structure}. So the
+        parameters of clones are known, which aren't those of the source, and those of what is inlined."""
+        found: dict[int, list[tuple[int, int]]] = {}
+        work = [(self.entries[first], 0)] if first in self.entries else []
+        while work:
+            entry, depth = work.pop()
+            for each in entry.below:
+                if each.tag in (BLOCK, INLINED) and depth < DEEPEST_BLOCK:
+                    work.append((each, depth + 1))
+                kind = self.types.pointed(self.dwarf.type_of(each)) if each.tag in (VARIABLE, PARAMETER) else 0
+                for low, _, register in locations(self.dwarf, each) if kind and self.left_locations > 0 else ():
+                    found.setdefault(low, []).append((register, kind))
+                    self.left_locations -= 1
+        return found
 
     def scope(self, entry: Entry, low: int, high: int, depth: int) -> Iterator[Local]:
         """The variables of a block and those in it; one of several ranges is as wide as what is around it."""

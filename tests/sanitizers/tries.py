@@ -63,7 +63,8 @@ def gcc_tests(folder: str) -> Iterator[Test]:
                 continue
             told = " ".join(re.findall(r'dg-output "(.*?)" *(?:\{[^}]*\} *)?\}', text))
             kind = HEAD.search(told)
-            is_bad = "dg-shouldfail" in text or kind is not None     # (some continue after an error, and end well)
+            # (some continue after an error, and end well)
+            is_bad = "dg-shouldfail" in text or kind is not None or "RITE of size" in told or "READ of size" in told
             lines = frozenset(int(line) for file, line in FRAME.findall(told.replace("\\", "")) if file == name)
             options = tuple(word for words in OPTIONS.findall(text) for word in words.split()
                             if word[:2] in ("-f", "-D") and "sanitize" not in word)

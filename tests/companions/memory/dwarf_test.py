@@ -14,6 +14,8 @@ from companion.memory.program import Program
 from companion.recording import dwarf
 from companion.recording.dwarf import ARRAY, BASE, BYTE_SIZE, MEMBER, OFFSET, POINTER, STRUCT, SUBRANGE, TYPE, UPPER, Dwarf, Entry, Unit
 from companion.recording.elf import Elf
+from companion.recording.instruction import NAMES as NAMES_OF_REGISTERS
+from companion.recording.locations import locations
 from companion.recording.members import Members
 from companion.recording.types import Types
 
@@ -47,6 +49,41 @@ class DwarfTest(case.Case):
             self.assertEqual(told, [value for _, value in wanted], elf)
             asked += len(told)
         self.assertGreater(asked, 100)
+
+    def test_registers_of_variables_are_gdbs(self):
+        if not shutil.which(GDB):
+            self.skipTest(f"{GDB} isn't installed")
+        asked = 0
+        for elf in [each.elf for each in list(common.crashes().values())[:40:6]]:
+            program = Program(Elf(elf))
+            for first, entry in program.entries.items():
+                said = subprocess.run([GDB, "-batch", "-nx", "-ex", f"info scope *{first:#x}", elf], stdout=subprocess.PIPE,
+                                      stderr=subprocess.STDOUT).stdout.decode()
+                told = dict(re.findall(r"Symbol (\w+) is multi-location:\n(.*?)^, length", said, re.M | re.S))
+                for each in (each for each in entry.below if program.dwarf.name_of(each) in told):
+                    ranges = re.findall(r"Range 0x(\w+)-0x(\w+): a variable in \$(\w+)", told[program.dwarf.name_of(each)])
+                    self.assertEqual([(f"{one.low:x}", f"{one.high:x}", NAMES_OF_REGISTERS[one.register])
+                                      for one in locations(program.dwarf, each)],
+                                     [(low, high, "s0" if name == "fp" else name) for low, high, name in ranges], elf)
+                    asked += len(ranges)
+        self.assertGreater(asked, 60)
+
+    def test_forged_lists_of_locations(self):
+        """Any bytes are a list that ends, and a list that many variables share is read so often at most."""
+        draw = random.Random(7)
+        entry = Entry(1, dwarf.VARIABLE, {dwarf.LOCATION: 1}, Unit("", ""))
+        found = self.types_of().dwarf
+        for size in list(range(40)) + [100000]:
+            found.parts = {".debug_loclists": bytes(draw.choice((0, 4, 6, 7, 8, 9, 1, 0x5a, 255)) for _ in range(size))}
+            self.assertLessEqual(len(list(locations(found, entry))), 1000)
+        program = Program(Elf(self.elf("heap")))
+        first, program.left_locations = next(iter(program.entries)), 3
+        for each in program.entries.values():
+            each.below += [Entry(1, dwarf.VARIABLE, {dwarf.LOCATION: 12, TYPE: self.pointer_in(program)}, each.unit)] * 9
+        self.assertLess(sum(map(len, program.pointers_in_registers(first).values())), 9)
+
+    def pointer_in(self, program):
+        return next(at for at, each in program.dwarf.entries.items() if each.tag == POINTER and program.types.pointed(at))
 
     def test_damaged_files(self):
         """Each byte of the debug information can be another: the rest is read, or nothing."""

@@ -63,8 +63,9 @@ CASES = (
     ("unwritten_bits", findings.UNINITIALIZED, "0 bytes into a block of 8 bytes", "unwritten_bits"),
     ("moved", findings.HEAP, "store of 1, 419 bytes after a block of 8 bytes", "set"),
     ("local_member_after", findings.MEMBER, "store of 1, 0 bytes after name.text (12 bytes)", "local_member_after"),
+    ("clone_member_after", findings.MEMBER, "store of 1, 0 bytes after name.text (12 bytes)", "set_of_clone"),
 )
-PLAIN = "after_scope", "local_member_after"      # cases of the program that is compiled without optimization
+PLAIN = "after_scope",                          # cases of the program that is compiled without optimization
 NUMBERS = {name: at for at, (name, *_) in enumerate(CASES)}
 programs = {}
 

@@ -339,6 +339,19 @@ NOINLINE static void local_member_after(unsigned bad)
     free(block);
 }
 
+/* The compiler leaves the second parameter out, so the third one is in another register than the source says. */
+__attribute__((noinline)) static void set_of_clone(unsigned at, unsigned step, struct name *name, char value)
+{
+    for (unsigned i = 0; i < 3; i++)
+        name->text[at] = value + i * step + sink;
+}
+
+NOINLINE static void clone_member_after(unsigned bad)
+{
+    set_of_clone(11 + bad, 3, malloc(sizeof(struct name)), turn);
+    set_of_clone(10, 3, malloc(sizeof(struct name)), turn + 1);
+}
+
 /* The same place, but what it was made for can't be followed. */
 NOINLINE static char *unknown(const char *place)
 {
@@ -393,7 +406,7 @@ static void (*const cases[])(unsigned) = {
     member_after, block_member_after, stack_after, after_return, depth, over_return_address, no_pointer, unwritten_block,
     unwritten_local, unwritten_copied, unwritten_out, leak, overlapping, lends, freed_nowhere,
     unwritten_size, asked, array_of_length, after_scope,
-    after_unknown, freed_unknown, after_return_unknown, unwritten_bits, moved, local_member_after};
+    after_unknown, freed_unknown, after_return_unknown, unwritten_bits, moved, local_member_after, clone_member_after};
 
 static void work(int hart)
 {

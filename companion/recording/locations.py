@@ -1,0 +1,56 @@
+"""The registers that variables are in, by address, as lists of locations of DWARF 5 tell them."""
+from __future__ import annotations
+
+import struct
+from typing import Iterator, NamedTuple
+
+from .dwarf import LOCATION, Dwarf, Entry, unsigned
+
+REGISTER, REGISTERS = 0x50, 32                  # DWARF's operation for the first register; how many there are
+END, OFFSETS, BASE, BETWEEN, LENGTH, VIEWS = 0, 4, 6, 7, 8, 9
+LONGEST_LIST = 1000
+
+
+class Location(NamedTuple):
+    """A register that has the value from one address up to another."""
+    low: int
+    high: int
+    register: int
+
+
+def locations(dwarf: Dwarf, entry: Entry) -> Iterator[Location]:
+    """Those of a variable that is wholly in a register. Whatever bytes there are, it ends."""
+    at = entry.number(LOCATION)
+    try:
+        yield from listed(dwarf.parts.get(".debug_loclists", b""), at) if at else ()
+    except (struct.error, IndexError, ValueError):
+        return
+
+
+def listed(data: bytes, at: int) -> Iterator[Location]:
+    base = -1
+    for _ in range(LONGEST_LIST):
+        kind, at = data[at], at + 1
+        low = high = 0
+        if kind == BASE:
+            base, at = struct.unpack_from("<I", data, at)[0], at + 4
+            continue
+        if kind in (OFFSETS, VIEWS):
+            low, at = unsigned(data, at)
+            high, at = unsigned(data, at)
+            low, high = (low + base, high + base) if base >= 0 else (0, 0)
+        elif kind == BETWEEN:
+            low, high = struct.unpack_from("<II", data, at)
+            at += 8
+        elif kind == LENGTH:
+            low, at = struct.unpack_from("<I", data, at)[0], at + 4
+            high, at = unsigned(data, at)
+            high += low
+        else:                                   # the end, or what can't be read
+            return
+        if kind == VIEWS:
+            continue
+        size, at = unsigned(data, at)
+        if size == 1 and REGISTER <= data[at] < REGISTER + REGISTERS and low < high:
+            yield Location(low, high, data[at] - REGISTER)
+        at += size
