@@ -1,8 +1,8 @@
 #!/usr/bin/env bash
 # Tries the limits of files: tests/program/limits.sh PROGRAM. It gives the program files of just their greatest length and of a
 # byte more, and saves a file past the limit that the system sets to a process's files. It saves over files that were
-# loaded or saved, through links, onto a full disk and into a closed folder. The long files take no room on the disk.
-# BOOK takes a gigabyte of memory for two seconds.
+# loaded or saved, through links, onto a full disk and into a closed folder. Rows are printed, or dropped, in less memory than
+# their text takes. The long files take no room on the disk. BOOK takes a gigabyte of memory for two seconds.
 . "$(dirname "$0")/../asserts.sh"
 program=$(readlink -f "$1")
 cd "$work" || exit 1
@@ -53,6 +53,17 @@ if [ -r /proc/self/limits ]; then
 fi
 for name in LOG3 BOOK3 NEW; do
     [ ! -e $name ] || fails "$name was begun"
+done
+
+what="rows don't wait in memory"
+# (the rows of each command have more bytes than it has for all)
+cp "$top/examples/sort.elf" SORT
+answers 11 "" record --seed 1 --limit 200000 --interval 200000 SORT ROWS TURNS
+bounded() { (ulimit -v 12000 && exec "$program" "$@"); }
+for words in "joint ROWS SORT" "replay ROWS SORT 0 0" "demo 7"; do
+    # shellcheck disable=SC2086 # its words
+    runs 0 bounded $words
+    [[ $words == demo* || $(wc -c <out) -gt 10000000 ]] || fails "'$words' prints $(wc -c <out) bytes"
 done
 
 what="a file that was loaded stays as it is, whatever name leads to it"
