@@ -386,7 +386,7 @@ for line in "Package: zelkuma" "Version: $(<"$top/VERSION")" "Architecture: amd6
     has out "$line"
 done
 runs 0 dpkg-deb --contents "$package"
-! grep -vE '^(d|-)rwxr-xr-x root/root |^-rw-r--r-- root/root ' "$work/out" || fails "a mode or an owner is another"
+! grep -vE '^(d|-)rwxr-xr-x root/root |^-rw-r--r-- root/root |^lrwxrwxrwx root/root .* -> \.\./\.\./common-licenses/Apache-2\.0$' "$work/out" || fails "a mode or an owner is another"
 for name in docs/GUIDE.md examples/launch.json examples/heap.elf README.md CHANGELOG.md; do
     has out "./usr/share/doc/zelkuma/$name"
 done
