@@ -1,9 +1,10 @@
 #!/usr/bin/env bash
-# Makes docs/view.png: the page that `zelkuma view` draws of a recording of examples/tills.elf, in Chromium.
+# Makes docs/view.png: the page that `zelkuma view` draws of examples/filters.elf by the order that `zelkuma shrink` finds, in
+# Chromium. The sources that it shows are without the comments that tell their bugs.
 #
 # tests/companions/lib/picture.sh [PROGRAM [PICTURE [FOLDER]]]: PROGRAM is that of ZELKUMA_PROGRAM, else the one that the companions find.
 # In FOLDER are made, to look at, the pages of a crash, a hang and a byte of the output, each in light and dark.
-# Without Chromium, or without the compiler that gives the example its names, nothing is made.
+# Without Chromium nothing is made.
 set -eu
 top=$(cd "$(dirname "$0")/../../.." && pwd)
 ZELKUMA_PROGRAM=${1:-${ZELKUMA_PROGRAM:-$(cd "$top" && python3 -B -c 'from companion.call import program; print(program.path())')}}
@@ -13,16 +14,21 @@ folder=${3:-}
 
 library=$top/tests/companions/lib
 
-type -P riscv64-unknown-elf-gcc >/dev/null || { echo "skipped: riscv64-unknown-elf-gcc isn't installed"; exit 0; }
 python3 -c 'import sys; sys.path.insert(0, sys.argv[1]); import chromium; sys.exit(not chromium.find())' "$library" ||
     { echo "skipped: chromium isn't installed"; exit 0; }
 work=$(mktemp -d)
 trap 'rm -rf "$work"' EXIT
-"$top/examples/build.sh" "$work/elf" "$work/names"
+mkdir "$work/examples"
+cp "$top/examples/filters.elf" "$work"
+cp -r "$top/examples/lib" "$work/examples"
+sed 's| */\* the bug.*\*/||' "$top/examples/filters.c" >"$work/examples/filters.c"
+# (turns of hart 0 and of hart 3: docs/GUIDE.md)
+printf '\0%.0s' {1..26} >"$work/turns" && printf '\3%.0s' {1..14} >>"$work/turns" && printf '\0%.0s' {1..14} >>"$work/turns"
+printf '\3%.0s' {1..3} >>"$work/turns"
 status=0
-"$ZELKUMA_PROGRAM" record --format 2 --seed 1 --harts 2 "$work/elf/tills.elf" "$work/tills.log" "$work/book" 2>/dev/null || status=$?
-[ "$status" -eq 10 ] || { echo "tills.elf ended with $status, not with its fault" >&2; exit 1; }
-python3 "$top/companion" view "$work/tills.log" "$work/elf/tills.elf" --names "$work/names/tills.elf" >"$work/page.html"
+ZELKUMA_SCHEDULE=book:$work/turns "$ZELKUMA_PROGRAM" record --format 2 --harts 4 "$work/filters.elf" "$work/filters.log" "$work/book" 2>/dev/null || status=$?
+[ "$status" -eq 10 ] || { echo "filters.elf ended with $status, not with its fault" >&2; exit 1; }
+(cd "$work" && python3 "$top/companion" view filters.log filters.elf >page.html)
 python3 "$library/picture.py" "$work/page.html" "$picture"
 
 # Pictures of the page of one of tests/crashes: draws NAME STATUS [OPTION..] -- [OPTION OF VIEW..]
