@@ -15,7 +15,8 @@ cp -r "$top/"{zelkuma,crates.txt,tools,companion,python} "$sources"
 mkdir "$sources/examples"
 cp -r "$top/examples/"{bare,lib,picolibc} "$sources/examples"
 cp "$top/VERSION" "$sources"
-cp "$top/release/"{STAMP,COMMIT} "$sources/release"
+cp "$top/release/STAMP" "$sources/release"
+echo '$Format:%H$' >"$sources/release/COMMIT" # as in a checkout; an exported tree has the commit there
 cp "$program" "$sources/release/zelkuma-x86_64-linux"
 (cd "$sources/release" && sha256sum zelkuma-x86_64-linux >SHA256SUMS)
 echo 'import os, sys; print(os.environ["ZELKUMA_PROGRAM"], *sys.argv[1:]); sys.exit(5)' >"$sources/companion/__main__.py"
