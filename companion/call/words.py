@@ -25,6 +25,7 @@ PARTS = {
         "race": "groups the races of a log",
         "seeds": "searches for turns by which a program crashes",
         "shrink": "finds the shortest order of harts that still crashes",
+        "whatif": "tells how a run ends with one row done otherwise",
         "again": "makes a recording again, with a larger log",
     },
     "view": {"view": "draws a log as one page"},

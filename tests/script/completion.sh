@@ -26,7 +26,7 @@ types 'zelkuma record --input=pro\tmylo\t' record --input=program.elf mylog
 types 'zelkuma list --log\t' list --log
 types 'zelkuma audit mylog pro\tmylo\t --inp\tpro\t' audit mylog program.elf mylog --input program.elf
 types 'zelkuma debug mylo\tpro\tste\t' debug mylog program.elf ste
-types 'zelkuma wh\tmylo\tpro\t--html mylo\t' why mylog program.elf --html mylog
+types 'zelkuma why\tmylo\tpro\t--html mylo\t' why mylog program.elf --html mylog
 types 'zelkuma seeds mylo\t2 -- --log\t7 mylo\t' seeds mylo2 -- --log-size 7 mylog
 types 'zelkuma export mylo\tpro\t--call\tmylo\t--row' export mylog program.elf --callgrind mylog --row
 types 'zelkuma export mylo\tpro\t--perf\tmylo\t--name\tpro\t' export mylog program.elf --perfetto mylog --names program.elf

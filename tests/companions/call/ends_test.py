@@ -68,7 +68,7 @@ class Calls:
         names = self.log, self.elf
         return [(word, *names) for word in ("why", "race", "view", "bucket", "output", "gdb", "memory")] + [
             ("history", *names, "0x12000"), ("calls", *names, "main"), ("find", *names, "1"), ("compare", self.log, *names),
-            ("at", *names, "hang.c:1", "1"),
+            ("at", *names, "hang.c:1", "1"), ("whatif", *names, self.book, "0:5", "--skip"),
             ("export", *names, "--lcov", self.new), ("triage", self.folder, "--elfs", self.elf),
             ("again", *names, self.book, self.new), ("shrink", *names, self.book, self.new, self.new + "2"),
             ("seeds", "1", "9", "--", self.elf, self.new, self.new + "2")]
