@@ -20,7 +20,7 @@ LEAST, MOST = 0.05, 3           # seconds that are told from none, and how much 
 COUNTED = 3                     # the word at which a round of `counters` begins
 BYTE, SWAP = 0, 1               # kinds of a load or store, and of an atomic instruction
 FAULT = [addi(T1, 0, -1), load(T2, T2)]
-COMPANIONS = "why", "view", "race", "bucket", "output", "history", "calls", "find", "compare", "memory"
+COMPANIONS = "why", "view", "race", "bucket", "output", "history", "calls", "find", "compare", "memory", "export"
 BEGINS = {"recursion": 1, "gives": 13}          # the word at which the function begins that is called
 
 
@@ -111,6 +111,8 @@ def call_of(word, family, log, elf, other):
     """What a companion is called with; `other` is a log of the same program with other turns, if it has several harts."""
     if word == "compare":
         return word, log, other, elf
+    if word == "export":
+        return word, log, elf, "--core", common.path("doubled.core")
     asked = {"history": f"{DATA:08x}", "find": "1", "calls": f"{pc_of(BEGINS.get(family.__name__, 0)):08x}"}
     return (word, log, elf, asked[word]) if word in asked else (word, log, elf)
 
