@@ -20,6 +20,6 @@ if __name__ == "__main__":
         sys.path[0] = os.path.dirname(os.path.dirname(os.path.abspath(__file__)))
     try:
         words = importlib.import_module((__package__ or "companion") + ".call.words")
-    except OSError as error:                    # no file can be opened
-        sys.exit(f"zelkuma: {error}")
+    except (OSError, ImportError, MemoryError) as error:        # no file can be opened, or there is no room
+        sys.exit(f"zelkuma: {str(error) or 'out of memory'}")
     words.main(sys.argv[1:])

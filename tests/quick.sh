@@ -139,6 +139,7 @@ tries tests/sources/promised.py
 tries tests/sources/examples.sh
 tries tests/companions.sh "$program"
 ZELKUMA_PROGRAM=$program tries tests/hostile/signals.py
+ZELKUMA_PROGRAM=$program tries tests/hostile/limits.py 2
 ZELKUMA_PROGRAM=$program tries tests/hostile/forged_dwarf.py 16 1 3
 tries tests/oracle/quick.sh "$program"
 wait

@@ -76,6 +76,9 @@ def guarded(words: list[str]) -> int:
     except MemoryError:
         streams.say("out of memory")
         return NO_MEMORY
+    except ImportError as error:
+        streams.say(f"python can't load a module: {error}")
+        return BROKEN
     except FileNotFoundError as error:
         streams.say(f"missing: {error.filename or error.strerror}")
         return MISSING

@@ -16,6 +16,7 @@ import tarfile
 import tempfile
 import zipfile
 
+import forked
 from tried import TOP, read, write
 
 sys.path.insert(0, TOP)
@@ -24,7 +25,7 @@ from companion.call.errors import CompanionError              # noqa: E402
 from companion.questions import export                        # noqa: E402
 from companion.triage import forms, store                     # noqa: E402
 
-SCRIPT, COMPANION, ELF = f"{TOP}/zelkuma", f"{TOP}/companion", f"{TOP}/examples/hand_over.elf"
+SCRIPT, ELF = f"{TOP}/zelkuma", f"{TOP}/examples/hand_over.elf"
 KINDS = {"LOG": kinds.LOG, "BOOK": kinds.TURNS, "page": kinds.PAGE, "json": forms.JSON, "junit": forms.JUNIT, "cache": store.CACHE,
          **export.KINDS}
 SECONDS = 600               # after which a call hangs
@@ -96,19 +97,24 @@ def script_calls(name, folder):
 
 
 def companion_calls(name, folder):
-    log, other, call = f"{folder}/LOG", f"{folder}/other", [sys.executable, COMPANION]
-    yield from ([*call, "export", log, ELF, option, name] for option in export.KINDS)
-    yield from ([*call, "triage", log, "--elfs", ELF, option, name] for option in ("--json", "--junit", "--html"))
-    yield [*call, "why", log, ELF, "--html", name]
-    yield [*call, "again", log, ELF, f"{folder}/BOOK", name]
+    log, other = f"{folder}/LOG", f"{folder}/other"
+    yield from (["export", log, ELF, option, name] for option in export.KINDS)
+    yield from (["triage", log, "--elfs", ELF, option, name] for option in ("--json", "--junit", "--html"))
+    yield ["why", log, ELF, "--html", name]
+    yield ["again", log, ELF, f"{folder}/BOOK", name]
     for pair in ([name, other], [other, name]):
-        yield [*call, "shrink", log, ELF, f"{folder}/BOOK", *pair]
-        yield [*call, "seeds", "1", "2", "--", "--harts", "2", ELF, *pair]
+        yield ["shrink", log, ELF, f"{folder}/BOOK", *pair]
+        yield ["seeds", "1", "2", "--", "--harts", "2", ELF, *pair]
 
 
 def is_refused(call):
     done = subprocess.run(call, stdin=subprocess.DEVNULL, stdout=subprocess.PIPE, stderr=subprocess.PIPE, check=False, timeout=SECONDS)
     return done.returncode == 2 and done.stderr.count(b"\n") == 1 and not done.stdout
+
+
+def is_refused_here(words, apart):
+    ended = forked.companion(words, apart)
+    return ended.status == 2 and ended.err.count(b"\n") == 1 and not ended.out
 
 
 def is_refused_by(kind, name):
@@ -119,27 +125,27 @@ def is_refused_by(kind, name):
     return False
 
 
-def tried(name, kind, folder, is_first):
+def tried(name, folder, apart, is_first):
     """What took a file."""
     taken = [" ".join(call) for call in script_calls(name, folder) if not is_refused(call)]
     taken += [f"a target for {of}" for of in KINDS if not is_refused_by(KINDS[of], name)]
-    taken += [" ".join(call) for call in companion_calls(name, folder) if is_first and not is_refused(call)]
+    taken += [" ".join(words) for words in companion_calls(name, folder) if is_first and not is_refused_here(words, apart)]
     return taken
 
 
 def main(words):
     each, seed = map(int, [*words, *("5", "1")[len(words):]])
     counts, wrong = collections.Counter(), []
-    with tempfile.TemporaryDirectory() as folder:
+    with tempfile.TemporaryDirectory() as folder, tempfile.TemporaryDirectory() as apart:
         subprocess.run([SCRIPT, "record", "--format", "2", "--harts", "2", "--seed", "3", ELF, f"{folder}/LOG", f"{folder}/BOOK"],
                        stdout=subprocess.DEVNULL, stderr=subprocess.DEVNULL, check=False)
-        subprocess.run([sys.executable, COMPANION, "why", f"{folder}/LOG", ELF, "--html", f"{folder}/page"], stdout=subprocess.DEVNULL, check=True)
+        forked.companion(["why", f"{folder}/LOG", ELF, "--html", f"{folder}/page"], apart)
         log, book, page = (read(f"{folder}/{name}") for name in ("LOG", "BOOK", "page"))
         for number in range(each):
             for kind, data in foreign(log, book, page, random.Random(seed << 40 | number)).items():
                 name = f"{folder}/foreign"
                 write(name, data)
-                taken = tried(name, kind, folder, not number)
+                taken = tried(name, folder, apart, not number)
                 counts["files"] += 1
                 if taken or read(name) != data or set(os.listdir(folder)) - {"LOG", "BOOK", "page", "foreign"}:
                     wrong.append(f"{kind}, {number}: {'; '.join(taken) or 'it has changed'}")

@@ -45,8 +45,17 @@ await_program() {
     [[ -z $passed ]] || ((status >= 0 && status != 127)) || status=$((128 + $(kill -l "$passed")))
 }
 
+# What is done however the call ends. bash ends with 254, and outside of all functions, if it can start no process; it may not
+# have said so.
+held=()
+end_run() { # STATUS
+    [ ${#held[@]} -eq 0 ] || rm -f -- "${held[@]}"
+    [ "$1" -ne 254 ] || stop 1 "no process can be started: see 'ulimit -u'"
+}
+
 run() { # WORD..
-    local words=("$@") wanted=() held=() unsaved=() child='' shower='' caught='' signal status
+    local words=("$@") wanted=() unsaved=() child='' shower='' caught='' signal status
+    trap 'end_run $?' EXIT
     if [[ $1 == @(record|convert|salvage) ]]; then
         . "$top/tools/launcher/targets.sh"
         read_words
@@ -70,7 +79,6 @@ run() { # WORD..
     exec {err}>&2 2>/dev/null
     await_program
     [ -z "$shower" ] || wait "$shower"
-    [ ${#held[@]} -eq 0 ] || rm -f -- "${held[@]}"
     [[ $status -le 128 || ${#wanted[@]} -eq 0 ]] || remove_unsaved
     # whatever becomes of the advice (nobody may read err any more), the status is the program's; with format 2 a log has
     # the end of its run

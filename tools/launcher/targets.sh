@@ -26,7 +26,6 @@ hold_attributes() { # FILE
     [[ $kept == "# "* || $kept == ??????????+* ]] || return 0
     file=$(readlink -f -- "$1")
     further=${file%/*}/.zelkuma-held-$$-${#held[@]}
-    trap 'rm -f -- "${held[@]}"' EXIT
     held+=("$further") && ln -- "$file" "$further" || : # a signal may come right after it
 } 2>/dev/null
 
