@@ -107,10 +107,10 @@ class Run:
             if made is None:
                 return self.nearly(quick, done, time.monotonic() - began)
             done, is_last = made, made.status != LIMIT or limit == self.limit
-            if self.has_one_hart or is_last:
-                self.pass_on(done)
             if is_last:
                 return done
+            if self.has_one_hart:
+                self.pass_on(done)
             limit = min(limit * STEP, self.limit)
 
     def nearly(self, quick: Quick, done: Optional[Step], seconds: float) -> Optional[Step]:
@@ -125,7 +125,8 @@ class Run:
         """Saves the recording, and tells how it ended. The status."""
         summary = last_line(step.files[0] + ".err").partition(": ")[2]
         saved = [(place, name) for place, name in zip(self.targets, step.files) if os.path.exists(name)]
-        take_together(saved)
+        take_together(saved)                    # first: nobody may read what is passed on
+        self.pass_on(step)
         streams.say(f"{' and '.join(place.name for place, _ in saved)}: {summary}")
         status = TIMED_OUT if step.status == LIMIT else exit_code(self.log.path) or 0 if step.status == DONE else FAULTED
         if status:

@@ -151,7 +151,7 @@ if unshare -rm true 2>/dev/null; then
         runs 0 unshare -rm bash -c "${!what}" "$program"
     done
 else
-    skips "a full disk, mounted files, the file beside: there is no unshare"
+    skips "a full disk, mounted files, the file beside: unshare isn't here, or isn't permitted"
 fi
 
 what="a folder that takes no new file: the file is written in place" # (the superuser has no such folder)

@@ -113,6 +113,14 @@ def awaits(folder, process, name):
         time.sleep(0.02)
 
 
+def case_an_output_that_nobody_reads_loses_nothing(recordings):
+    folder = Folder(recordings, "unread", [*writes(1), *ends_with(0)])
+    with open("/dev/full", "wb") as full:
+        done = subprocess.run([sys.executable, COMPANION, "run", folder.elf], stdout=full, stderr=subprocess.PIPE, check=False)
+    assert done.returncode == 13 and b"the output takes no more" in done.stderr, done
+    folder.recorded(*FIRST)
+
+
 def begun(folder, recordings, name, sleeps):
     """A run whose program takes a million instructions, and for this limit sleeps."""
     script = recordings.write(name, f"""#!/bin/bash
