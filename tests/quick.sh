@@ -125,7 +125,7 @@ tries tests/program/limits.sh "$program"
 tries tests/program/threads.py "$program"
 tries tests/pages/documents.py "$program" README.md examples/README.md docs/COMMANDS.md tests/pages/examples.md
 if [[ " ${packages[*]} " != *" binutils "* ]]; then
-    tries tests/pages/documents.py "$program" docs/{GUIDE,WHY,SHRINK,VIEW,GDB,PYTHON,AT,RUN}.md
+    tries tests/pages/documents.py "$program" docs/{GUIDE,WHY,SHRINK,ORDERS,VIEW,GDB,PYTHON,AT,RUN}.md
 else
     echo "skipped: the examples of docs/, which show lines: there is no addr2line: apt-get install binutils"
 fi

@@ -26,6 +26,7 @@ PARTS = {
         "seeds": "searches for turns by which a program crashes",
         "shrink": "finds the shortest order of harts that still crashes",
         "whatif": "tells how a run ends with one row done otherwise",
+        "recheck": "asks if a build is mended",
         "again": "makes a recording again, with a larger log",
     },
     "view": {"view": "draws a log as one page"},

@@ -1,11 +1,14 @@
 """An order of harts told by meaning: each switch by its access, object, function and line, so that it fits other builds."""
 from __future__ import annotations
 
+import functools
+import re
 from dataclasses import dataclass, field
 from typing import Callable, Mapping, NamedTuple, Optional, Sequence, Tuple
 
 LOAD, STORE, ATOMIC, CALL, FAULT = "load", "store", "atomic", "call", "fault"
 WELL, LIMIT, EXIT, OUTPUT = "well", "limit", "exit", "output"
+COMMENTS = re.compile(r"/\*.*?(?:\*/|$)|//.*")
 NO_SYMBOL = "-"             # of an access that is to no object of the file's: the stack, the heap
 
 
@@ -40,7 +43,7 @@ class Point(NamedTuple):
         if self.function != other.function:
             return False
         if self.text and other.text:
-            return self.text == other.text
+            return bare(self.text) == bare(other.text)
         return not (self.line and other.line) or (self.file, self.line) == (other.file, other.line)
 
 
@@ -101,6 +104,12 @@ class Ended(NamedTuple):
         if self.kind == OUTPUT:
             return f"byte {self.place} of its output is {self.value}"
         return "it ends well"
+
+
+@functools.lru_cache(maxsize=10000)
+def bare(text: str) -> str:
+    """A line without comments and blanks."""
+    return COMMENTS.sub("", text).replace(" ", "")
 
 
 def objects_of(waits: Waits) -> dict[int, frozenset[str]]:

@@ -143,13 +143,15 @@ class Targets:
 
 
 def targets_of(name: str, input_name: str, read: Sequence[str]) -> Targets:
-    """CompanionError if an order may not be saved under a name. An old input is kept unless it is the same."""
-    beside: Optional[Target] = None
-    if input_name and os.path.getsize(input_name) > LONGEST_TEXT:
-        data = Path(input_name).read_bytes()
-        kind = Kind("the input of this order", lambda old: Path(old).read_bytes() == data)
-        beside = target(name + INPUT_SUFFIX, kind, [*read, name])
+    """CompanionError if an order may not be saved under a name."""
+    is_long = input_name and os.path.getsize(input_name) > LONGEST_TEXT
+    beside = input_target(name, Path(input_name).read_bytes(), [*read, name]) if is_long else None
     return Targets(target(name, ORDER, read), beside)
+
+
+def input_target(name: str, data: bytes, read: Sequence[str]) -> Target:
+    """The file of an input, beside one of a name. An old one is kept unless it is the same."""
+    return target(name + INPUT_SUFFIX, Kind("the same input", lambda old: Path(old).read_bytes() == data), read)
 
 
 @dataclass

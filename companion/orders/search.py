@@ -33,11 +33,12 @@ class Nearest(NamedTuple):
 class Search:
     """best    the shortest list so far; of a run that hangs only up to where all of its harts wait, until it is done
     recorded, recorded_pieces, recorded_turns   of the recording
-    core    its pieces that matter: behind them harts wait for ever"""
+    core    its pieces that matter: behind them harts wait for ever
+    enough  the limit under which a run that hangs was tried"""
 
     def __init__(self, tries: Tries, recorded: Recording) -> None:
         self.tries, self.best = tries, pieces_of(recorded.turns())
-        self.limit = int(tries.options["--limit"])
+        self.limit = self.enough = int(tries.options["--limit"])
         self.recorded_pieces, self.recorded_turns = size_of(self.best)
         self.core = self.recorded = self.best
         self.windows: list[Window] = []
@@ -54,7 +55,7 @@ class Search:
             self.shorten()
         self.core = self.best
         self.windows = windows_of(self.tries, self.best)
-        self.tries.options["--limit"] = str(self.limit)
+        self.enough, self.tries.options["--limit"] = int(self.tries.options["--limit"]), str(self.limit)
         if self.tries.leaves_rest:
             self.tries.leaves_rest = False
             self.end_waiting()

@@ -18,12 +18,13 @@ from ..recording.opened import Program
 from ..recording.recent import open_log
 from ..recording.sources import source_folders
 from ..why.facts import asked_byte
+from .order_file import targets_of
 from .record import RECORD_OPTIONS
 from .same_end import exit_code
 from .shrinking import ShrinkInput, Shrunk, shrink
 from .shrinking_input import Asked, ShrunkInput, shrink_input
 
-HELP = """zelkuma shrink LOG ELF BOOK NEWLOG NEWBOOK [--seconds N] [--output N:BYTE] [--names ELF] [--source DIR] [--json] [-- WORD..]
+HELP = """zelkuma shrink LOG ELF BOOK NEWLOG NEWBOOK [--seconds N] [--output N:BYTE] [--names ELF] [--source DIR] [--order FILE] [--json] [-- WORD..]
 
 Finds the shortest order of harts that still ends as LOG does, and saves a recording of it as NEWLOG and NEWBOOK.
 
@@ -37,6 +38,7 @@ hartxturns, and then its switches: who stops where, who continues where, and wha
     --output N:BYTE  a run ends the same if this byte of the output is the same, as `zelkuma output` numbers them
     --names ELF      the program with its names and lines, if ELF was stripped
     --source DIR     shows sources below this folder too, not only below ELF's and the current one; may be given several times
+    --order FILE     saves the order by lines and objects as well: a test of later builds (`zelkuma recheck FILE NEW`)
     --json           prints one JSON object in place of the text (docs/JSON.md)
     -- WORD..        options of `record`: --input FILE is needed if LOG has one; others have to be those of LOG
 
@@ -52,9 +54,9 @@ left is made plain: digits 0, letters a.
 
 The answer is the same on each machine. Ctrl-C, TERM and HUP end the search (130, 143, 129): the shortest that
 was found is saved. BOOK has to be LOG's, as `audit` says. Companions show; the program proves."""
-FORM = "shrink LOG ELF BOOK NEWLOG NEWBOOK | NEW --input FILE [--says TEXT] [--seconds N] [--output N:BYTE] [--names ELF] [--source DIR] [--json] [-- WORD..]"
+FORM = "shrink LOG ELF BOOK NEWLOG NEWBOOK | NEW --input FILE [--says TEXT] [--seconds N] [--output N:BYTE] [--names ELF] [--source DIR] [--order FILE] [--json] [-- WORD..]"
 INPUT_FORM = "shrink LOG ELF NEW --input FILE [--says TEXT] [--seconds N] [--names ELF] [--source DIR] [--json]"
-ORDER_FORM = "shrink LOG ELF BOOK NEWLOG NEWBOOK [--seconds N] [--output N:BYTE] [--names ELF] [--source DIR] [--json] [-- WORD..]"
+ORDER_FORM = "shrink LOG ELF BOOK NEWLOG NEWBOOK [--seconds N] [--output N:BYTE] [--names ELF] [--source DIR] [--order FILE] [--json] [-- WORD..]"
 LONGEST_SEARCH = 1 << 20    # seconds
 LONGEST_INPUT, TOO_LONG = 1 << 24, 5    # bytes; the status of a file that is too long
 
@@ -92,9 +94,10 @@ def shrink_order(words: list[str]) -> tuple[Mapping[str, str], Union[Shrunk, Shr
     read = [log, elf_name, book, options.get("--input", "")]
     check_regular(*read)
     targets = target(new_log, LOG, read), target(new_book, TURNS, [*read, new_log])
+    order = targets_of(given["--order"], options.get("--input", ""), [*read, new_log, new_book]) if "--order" in given else None
     check(log, elf_name, book, options, byte is not None)
     program = Program(elf_name, given.get("--names", ""), source_folders(given))
-    return given, shrink(ShrinkInput(log, book, program, options, *targets, byte, seconds_of(given)))
+    return given, shrink(ShrinkInput(log, book, program, options, *targets, byte, seconds_of(given), order=order))
 
 
 def shrink_its_input(words: list[str]) -> tuple[Mapping[str, str], Union[Shrunk, ShrunkInput]]:

@@ -26,12 +26,16 @@ from ..recording.turns import pieces_of, shown, size_of
 from ..triage.bucket import bucket_of
 from ..why.facts import Byte
 from ..why.output import MOST_ROWS, numbered, writes_of
+from .meaning import Meaning
+from .order_file import Targets
 from .record import Quick
 from .same_end import Ends, Recording
 from .search import Nearest, Search
 from .switches import answer_of, bounded, window_lines
 from .side_by_side import SideBySide
+from .told_order import Telling
 from .tries import Tries
+from .verdict import TRIES
 from .waiting import Waiting
 
 MEMORY_FOLDER = "/dev/shm"  # files of tries needn't reach a disk
@@ -46,7 +50,8 @@ class ShrinkInput:
     program  that was recorded, with its names
     byte     of the output that is asked of, or None
     seconds  after which the search ends, or 0
-    good     where log and list of the nearest run that ends well are saved, if it is wanted"""
+    good     where log and list of the nearest run that ends well are saved, if it is wanted
+    order    where the order is saved by lines and objects, if it is wanted"""
     log: str
     book: str
     program: Program
@@ -56,6 +61,7 @@ class ShrinkInput:
     byte: Optional[Byte] = None
     seconds: int = 0
     good: Sequence[Target] = ()
+    order: Optional[Targets] = None
 
 
 class Shrunk(NamedTuple):
@@ -78,6 +84,8 @@ def shrink(asked: ShrinkInput) -> Shrunk:
         if nearest:
             save(nearest.made, asked.good)
         with closing(asked.program) as program:
+            if asked.order and not status:
+                save_order(asked.order, found, asked, Meaning(program), quick)
             told = Told(found, made, Teller(program.named, program.places), asked)
             said = Shrunk(told.lines(), told.answer(), status, nearest)
     if found.tries.is_ended():
@@ -87,6 +95,12 @@ def shrink(asked: ShrinkInput) -> Shrunk:
 
 def save(made: Recording, targets: Sequence[Target]) -> None:
     save_together([(place, Path(name).read_bytes()) for name, place in zip((made.log, made.book), targets)])
+
+
+def save_order(targets: Targets, found: Search, asked: ShrinkInput, meaning: Meaning, quick: Quick) -> None:
+    """Saves the order by lines and objects, and with it how many of the orders near it end badly."""
+    telling = Telling(quick, meaning, asked.options, found.tries.ends.offset, TRIES, found.tries.jobs)
+    targets.save(telling.of_search(found))
 
 
 class Signals:

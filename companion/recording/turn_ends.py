@@ -2,6 +2,7 @@
 from __future__ import annotations
 
 import re
+from typing import Iterator, Match
 
 from ..call.program import Output
 from .log import Log
@@ -14,11 +15,14 @@ TURN_ENDS = re.compile(rb"^(?:\d+ \d+ \w+ \S+ (?:l[bhw]u? |s[bhw] |ecall|lr\.|sc
 
 def turn_ends(text: bytes) -> list[bytes]:
     """Of what `replay` prints of a hart, the line with which each turn ended."""
-    found = []
+    return [match[0] for match in turn_matches(text)]
+
+
+def turn_matches(text: bytes) -> Iterator[Match[bytes]]:
+    """The same, with its place in the text."""
     for match in TURN_ENDS.finditer(text):
         if not (match[0].startswith(b"end ") and has_asked(text, match.start())):
-            found.append(match[0])
-    return found
+            yield match
 
 
 def has_asked(text: bytes, end: int) -> bool:

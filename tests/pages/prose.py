@@ -35,6 +35,7 @@ PAGES = {
     "docs/INTERNALS.md": 3850,
     "docs/JSON.md": 1550,
     "docs/MEMORY.md": 1300,
+    "docs/ORDERS.md": 1800,
     "docs/PROOF.md": 3050,
     "docs/PYTHON.md": 600,
     "docs/RUN.md": 1000,

@@ -131,7 +131,7 @@ class OrderFileTest(case.Case):
         self.assertEqual(order_file.read_order(name), order)
         self.assertIn("input-file long.order.input\n", common.text_of(name))
         common.written(given, data[::-1])
-        with self.assertRaisesRegex(case.CompanionError, "it isn't the input of this order"):
+        with self.assertRaisesRegex(case.CompanionError, "it isn't the same input"):
             order_file.targets_of(name, given, [])
         self.assertEqual(common.content(name + ".input"), data)
 

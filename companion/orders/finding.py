@@ -1,0 +1,124 @@
+"""Finds a mark among the turns of another build: by its line, else by a line that is like it."""
+from __future__ import annotations
+
+import difflib
+from typing import Callable, Iterator, List, NamedTuple, Optional, Tuple
+
+from .marks import ATOMIC, NO_SYMBOL, STORE, Mark, Point, Points, count_of, on_line
+
+ALIKE = 0.6                 # lines whose texts are so near are taken for one that was changed
+MOST_TEXTS = 1000           # lines of a function that are compared
+
+
+class Found(NamedTuple):
+    """The turn that is a mark's, and what is told of it."""
+    turn: int
+    how: str
+
+
+def nth_of(points: Points, fits: Callable[[Point], bool], nth: int) -> Optional[int]:
+    for at, one in enumerate(points):
+        if one and fits(one):
+            nth -= 1
+            if not nth:
+                return at
+    return None
+
+
+def wanted_of(mark: Mark) -> List[Tuple[Point, int]]:
+    """What is looked for: the point of the switch, else what has to have come before it."""
+    return [(mark.point, mark.nth)] + ([(mark.after, mark.nth_after)] if mark.after else [])
+
+
+def other_accesses(wanted: Point) -> Tuple[str, ...]:
+    """What an access of an object can have become: a store an atomic one, or the other way round."""
+    return (STORE,) if wanted.access == ATOMIC else (ATOMIC,)
+
+
+def find(points: Points, mark: Mark) -> Optional[Found]:
+    """By its line, under its callers if it has some there."""
+    for wanted, nth in wanted_of(mark):
+        at = None
+        if wanted.callers and wanted is mark.point:
+            at = nth_of(points, lambda one: is_there(one, wanted) and one.callers == wanted.callers, mark.under)
+        if at is None:
+            at = nth_of(points, lambda one: is_there(one, wanted), nth)
+        if at is None and wanted.symbol != NO_SYMBOL:
+            others = other_accesses(wanted)
+            at = nth_of(points, lambda one: one.access in others and one.symbol == wanted.symbol
+                        and one.is_line_of(wanted), nth)
+        if at is not None:
+            return Found(at, told(points[at], wanted, mark))
+    return None
+
+
+def is_there(one: Point, wanted: Point) -> bool:
+    return one.is_access_of(wanted) and one.is_line_of(wanted)
+
+
+def told(found: Optional[Point], wanted: Point, mark: Mark) -> str:
+    assert found
+    said = "there" if found.line == wanted.line or not wanted.line else f"now {found.place()}"
+    if found.access != wanted.access:
+        said += f", as {found.access}"
+    return said if wanted is mark.point else f"{said}, by what it has to come after: {found.place()}"
+
+
+def find_like(points: Points, mark: Mark) -> Optional[Found]:
+    """By a line of the function that is like it, by its access of the object alone, or by its text in
+    another function or of another object."""
+    return next((found for found in (*alike(points, mark), *renamed(points, mark)) if found), None)
+
+
+def alike(points: Points, mark: Mark) -> Iterator[Optional[Found]]:
+    for wanted, nth in wanted_of(mark):
+        near = near_line(points, wanted)
+        if near:
+            at = nth_of(points, lambda one: one.symbol == wanted.symbol and is_text_of(one, near), nth)
+            yield Found(at, f"the line is another now: {near.place()}   {near.text}") if at is not None else None
+        if wanted is mark.point and wanted.symbol != NO_SYMBOL:
+            at = nth_of(points, lambda one: one.is_access_of(wanted) and one.function == wanted.function,
+                        mark.in_function)
+            one = points[at] if at is not None else None
+            if at is not None and one:
+                yield Found(at, f"by its {wanted.what()} alone, now {one.place()}")
+
+
+def is_text_of(one: Point, near: Optional[Point]) -> bool:
+    return near is not None and (one.function, one.text) == (near.function, near.text)
+
+
+def renamed(points: Points, mark: Mark) -> Iterator[Optional[Found]]:
+    for wanted, nth in wanted_of(mark):
+        at = nth_of(points, lambda one: one.access == wanted.access and one.text == wanted.text != "", nth)
+        near = near_line(points, wanted) if at is None else None
+        if near:
+            at = nth_of(points, lambda one: one.access == wanted.access and is_text_of(one, near), nth)
+        one = points[at] if at is not None else None
+        if at is not None and one:
+            what = f"in {one.function}" if one.function != wanted.function else f"of {one.symbol}, not {wanted.symbol}"
+            yield Found(at, f"renamed, it seems: {one.access} {what}, now {one.place()}")
+
+
+def near_line(points: Points, wanted: Point) -> Optional[Point]:
+    """The line of the function whose text is nearest to one that is known."""
+    if not wanted.text:
+        return None
+    texts = {one.text: one for one in points if one and one.function == wanted.function and one.text}
+    near = difflib.get_close_matches(wanted.text, list(texts)[:MOST_TEXTS], 1, ALIKE)
+    return texts[near[0]] if near else None
+
+
+def missing(points: Points, mark: Mark) -> str:
+    """Why a mark has no place any more."""
+    wanted = mark.point
+    times = max(on_line(points, wanted),
+                count_of(points, lambda one: one.is_access_of(wanted) and one.function == wanted.function))
+    if times:
+        return f"hart {mark.hart} does it {times} times, not {mark.nth}"
+    met = [one for one in points if one and one.function == wanted.function]
+    if not met:
+        return f"hart {mark.hart} doesn't come to {wanted.function}"
+    near = min(met, key=lambda one: abs(one.line - wanted.line))
+    like = f" like '{wanted.text}'" if wanted.text else ""
+    return f"{wanted.function} has no {wanted.what()}{like}; the nearest is {near.what()} in {near.place()}"

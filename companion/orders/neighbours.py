@@ -1,0 +1,65 @@
+"""Orders near an order, the same each time. A switch comes a little earlier or later, alone and with
+others. Or behind the order up to a switch come bursts of all harts. Or turns are drawn from the start."""
+from __future__ import annotations
+
+import random
+from itertools import islice, zip_longest
+from typing import Iterator, List, Optional
+
+from ..recording.turns import Piece, Pieces, again_at, joined
+from .runs import Asked
+from .windows import SLACK, shifted
+
+FARTHEST, TOGETHER = 64, 12             # turns by which one switch is moved at most, and each of several
+LENGTHS = 1, 1, 2, 3, 5, 8, 13, 21, 34  # of bursts
+BURSTS = 4, 24                          # so many at least and at most
+MOST_HARTS_MOVED = 3
+
+
+def neighbours(pieces: Pieces, harts: int, most: int) -> List[Asked]:
+    """So many, of four kinds in turn."""
+    kinds = (one_moved(pieces), several_moved(pieces, random.Random(1)),
+             bursts(pieces, harts, random.Random(2)), drawn())
+    in_turn = (one for each in zip_longest(*kinds) for one in each if one)
+    return list(islice(in_turn, most))
+
+
+def one_moved(pieces: Pieces) -> Iterator[Asked]:
+    for far in range(1, FARTHEST + 1):
+        for at in range(len(pieces) - 1):
+            for by in (-far, far):
+                if can_move(pieces, at, by):
+                    yield Asked(shifted(pieces, at, by, SLACK))
+
+
+def several_moved(pieces: Pieces, draw: random.Random) -> Iterator[Optional[Asked]]:
+    switches = len(pieces) - 1
+    while switches > 1:
+        found = pieces
+        for at in draw.sample(range(switches), draw.randint(2, min(MOST_HARTS_MOVED, switches))):
+            by = draw.choice((-1, 1)) * draw.randint(1, TOGETHER)
+            moved = shifted(found, at, by, 0) if can_move(found, at, by) else found
+            found = moved if len(moved) == len(found) else found
+        yield Asked(found) if found != pieces else None
+
+
+def can_move(pieces: Pieces, at: int, by: int) -> bool:
+    """Whether each piece keeps a turn."""
+    again = again_at(pieces, at)
+    return pieces[at].turns + by > 0 and (again < 0 or pieces[again].turns - by > 0)
+
+
+def bursts(pieces: Pieces, harts: int, draw: random.Random) -> Iterator[Asked]:
+    """The order up to a switch, which is moved, too."""
+    while pieces:
+        at = draw.randrange(len(pieces))
+        cut = max(1, pieces[at].turns + draw.randint(-TOGETHER, TOGETHER))
+        rest = [Piece(draw.randrange(harts), draw.choice(LENGTHS)) for _ in range(draw.randint(*BURSTS))]
+        yield Asked(joined([*pieces[:at], Piece(pieces[at].hart, cut), *rest]))
+
+
+def drawn() -> Iterator[Asked]:
+    number = 0
+    while True:
+        number += 1
+        yield from (Asked(schedule=f"sleeper:{number}"), Asked(schedule=f"bursts:{number}"), Asked(seed=number))

@@ -1,0 +1,175 @@
+"""Whether a build is mended: the order of a crash is carried over to it, and orders near that are tried."""
+from __future__ import annotations
+
+from dataclasses import dataclass, field
+from typing import Any, Dict, List, Optional, Sequence
+
+from ..call.errors import UNSURE, WRONG
+from ..call.text import counted, number
+from ..recording.answers import LONGEST
+from ..recording.turns import Pieces
+from .carry import GONE, KEPT, Carrier, Step
+from .marks import FAULT, LIMIT, WELL, Ended, Order, Power
+from .neighbours import neighbours
+from .order_file import point_text
+from .record import FAULT as STATUS_FAULT
+from .record import LIMIT as STATUS_LIMIT
+from .runs import GROWN, Asked, Runs
+
+HOLDS = 0                           # the status
+TRIES, MOST_TRIES = 300, 100000
+MOST_INSTRUCTIONS = 20000000000     # of all orders near one; a run that is longer has fewer of them
+ENOUGH = 20                         # so many of the orders tried would crash if the build were the recorded one
+MOST_ENDINGS = 5                    # are told
+STATUS = {WELL: HOLDS, FAULT: STATUS_FAULT, LIMIT: STATUS_LIMIT}
+
+
+@dataclass
+class Ending:
+    """A bad end, how many orders end so, and the first of them."""
+    end: Ended
+    first: Asked
+    count: int = 1
+
+
+@dataclass
+class Near:
+    """Orders near one: how many were tried, how many end well only with a greater limit, and the bad
+    ends. `left_out` weren't tried, since the run is long."""
+    tried: int = 0
+    slow: int = 0
+    left_out: int = 0
+    endings: List[Ending] = field(default_factory=list)
+
+    @property
+    def bad(self) -> int:
+        return sum(ending.count for ending in self.endings)
+
+
+@dataclass
+class Checked:
+    """What is found of a build.
+
+    carried   how it ends by the order that was carried over, and that order
+    shown     the bad end that the verdict is of, if there is one
+    status    that of the verdict"""
+    order: Order
+    steps: Sequence[Step]
+    carried: Ended
+    near: Near
+    recordings: int
+    verdict: str = ""
+    status: int = HOLDS
+    shown: Optional[Ending] = None
+
+
+def near_of(runs: Runs, pieces: Pieces, harts: int, tries: int) -> Near:
+    """Tries so many orders near one."""
+    most = min(tries, MOST_INSTRUCTIONS // max(1, runs.longest))
+    found, by_end = Near(left_out=tries - most), {}     # type: Near, Dict[Ended, Ending]
+    for done in runs.each(neighbours(pieces, harts, most)):
+        found.tried += 1
+        if done.end.kind == WELL:
+            found.slow += done.is_slow
+        elif done.end in by_end:
+            by_end[done.end].count += 1
+        else:
+            by_end[done.end] = Ending(done.end, done.asked)
+    found.endings = sorted(by_end.values(), key=lambda ending: -ending.count)
+    return found
+
+
+def power_of(runs: Runs, pieces: Pieces, harts: int, tries: int) -> Optional[Power]:
+    """How many of so many orders near that of a crash end badly."""
+    near = near_of(runs, pieces, harts, tries) if tries else None
+    return Power(near.bad, near.tried) if near else None
+
+
+def check(runs: Runs, order: Order, tries: int) -> Checked:
+    carrier = Carrier(runs, order)
+    pieces = carrier.run()
+    asked = Asked(pieces) if order.harts > 1 else Asked()
+    carried = runs.one(asked).end
+    near = Near()
+    if carried.kind == WELL and order.harts > 1:
+        near = near_of(runs, pieces, order.harts, tries)
+    found = Checked(order, carrier.steps, carried, near, runs.count)
+    if carried.kind != WELL:
+        found.shown = Ending(carried, asked)
+    elif near.endings:
+        found.shown = next((ending for ending in near.endings if is_same(ending.end, order)), near.endings[0])
+    judge(found)
+    return found
+
+
+def is_same(end: Ended, order: Order) -> bool:
+    return order.end is not None and end.is_as(order.end)
+
+
+def judge(found: Checked) -> None:
+    order, near = found.order, found.near
+    if found.shown:
+        by = "by an order near it" if near.endings else "by the order itself"
+        if is_same(found.shown.end, order):
+            found.verdict = f"STILL CRASHES, {by}"
+        else:
+            found.verdict = "ENDS BADLY, " + ("but otherwise, " if order.end else "") + by
+        found.status = STATUS.get(found.shown.end.kind, WRONG)
+    elif order.harts == 1:
+        found.verdict = "HOLDS for this input: one hart has one order"
+    elif GONE in {step.how for step in found.steps} and expected(found) < ENOUGH:
+        found.verdict, found.status = "UNSURE: nothing ends badly, but the order could not be carried over", UNSURE
+    else:
+        is_kept = all(step.how == KEPT for step in found.steps)
+        found.verdict = "HOLDS, as far as was tried: the order " + (
+            "comes, and ends well" if is_kept else "can't come any more")
+
+
+def expected(found: Checked) -> float:
+    """How many of the orders that were tried would end badly if the build were the recorded one."""
+    power = found.order.power
+    return power.met * found.near.tried / power.tried if power and power.tried else 0.0
+
+
+def lines(found: Checked) -> List[str]:
+    order = found.order
+    said = [f"looked for: {order.end.text()}"] if order.end else []
+    for at, step in enumerate(found.steps, 1):
+        point = step.mark.point
+        said.append(f"{at:>3}. hart {step.mark.hart} until {point.what()} in {point.place()}: {step.said}")
+    kept = sum(step.how == KEPT for step in found.steps)
+    by = f"{kept} of {counted(len(found.steps), 'switch')} are as they were; by this order: " if found.steps else ""
+    return said + [by + found.carried.text()] + near_lines(found) + [found.verdict]
+
+
+def near_lines(found: Checked) -> List[str]:
+    near, power = found.near, found.order.power
+    if not near.tried:
+        return []
+    said = [f"{number(near.tried - near.bad)} of {number(near.tried)} orders near it end well"]
+    if power:
+        said[0] += f"; of the recorded build {number(power.tried - power.met)} of {number(power.tried)} do"
+    else:
+        said[0] += "; how many of the recorded build do isn't known"
+    if power and not power.met:
+        said.append("    none near it crashes in the recorded build, so these say nothing: the order alone does")
+    if near.slow:
+        said.append(f"    {number(near.slow)} of them need more than the limit, and end well with {GROWN} times as much")
+    if near.left_out:
+        said.append(f"    {number(near.left_out)} more are left out, since a run is long")
+    for ending in near.endings[:MOST_ENDINGS]:
+        said.append(f"    {number(ending.count)}: {ending.end.text()}; first by {ending.first.text()}")
+    more = len(near.endings) - MOST_ENDINGS
+    return said + ([f"    .. {counted(more, 'more end')} .."] if more > 0 else [])
+
+
+def answer(found: Checked) -> Dict[str, Any]:
+    order, near = found.order, found.near
+    return {"program": order.program, "verdict": found.verdict, "status": found.status,
+            "end": order.end.text() if order.end else "", "carried": found.carried.text(),
+            "switches": [{"hart": step.mark.hart, "point": point_text(step.mark.point), "how": step.how,
+                          "said": step.said} for step in found.steps[:LONGEST]],
+            "tried": near.tried, "well": near.tried - near.bad, "slow": near.slow, "left_out": near.left_out,
+            "power": list(order.power) if order.power else None,
+            "endings": [{"end": ending.end.text(), "count": ending.count, "first": ending.first.text()}
+                        for ending in near.endings[:LONGEST]], "recordings": found.recordings}
