@@ -5,7 +5,7 @@ import operator
 import re
 from collections import deque
 from dataclasses import dataclass, field
-from typing import Any, Callable, Deque, Dict, Iterator, List, NamedTuple, Optional, Sequence, Union
+from typing import Any, Callable, Deque, Dict, Iterator, List, Mapping, NamedTuple, Optional, Sequence, Union
 
 from ..call.errors import REFUSED, CompanionError
 from ..call.options import read_words, whole
@@ -20,6 +20,7 @@ from ..recording.stacks import HEAD, Chunk, Move
 from .functions import PAIR, PLAIN, WORD, Begin, Function, function_of
 from .reading import Asked, asked_of, read
 from .registers import Registers
+from .texts import MOST_TEXT, Pointer, texts_of
 from .types import Leaf, Type, signed, value_text
 from .variables import ADDRESS
 from .window import Window
@@ -38,7 +39,7 @@ Arguments have names and types if gdb tells them (gdb-multiarch, or what $ZELKUM
 An inlined call has neither arguments nor a result. How long a call ran is in instructions of its hart.
 Companions show; the program proves."""
 FORM = "calls LOG ELF FUNCTION [--names ELF] [--where ARG==VALUE] [--last N] [--rows N] [--json]"
-TOLD, MOST_TOLD, MOST_FRAMES, MOST_TEXT = 100, 1000000, 3, 40
+TOLD, MOST_TOLD, MOST_FRAMES = 100, 1000000, 3
 WHERE = re.compile(r"\s*(\w+)\s*(==|!=|<=|>=|<|>)\s*(-?\w+)\s*")
 COMPARE: dict[str, Callable[[int, int], bool]] = {"==": operator.eq, "!=": operator.ne, "<": operator.lt, "<=": operator.le,
                                                   ">": operator.gt, ">=": operator.ge}
@@ -53,8 +54,9 @@ class Call:
 
     depth    how deep its frame is
     values   what each parameter's registers held, None if nothing tells it
-    rows     how long it ran, None if it didn't return; end: its hart's count then
-    result   what a0 and a1 held then"""
+    rows     how long it ran, None if it didn't return; end: its hart's count then; back: the place
+    result   what a0 and a1 held then
+    texts    to which pointers led in memory that a run can change"""
     hart: bytes
     count: int
     place: int
@@ -65,8 +67,18 @@ class Call:
     values: list[Optional[int]] = field(default_factory=list)
     rows: Optional[int] = None
     end: int = 0
+    back: int = 0
     result: Optional[int] = None
     is_told: bool = True
+    texts: Mapping[Pointer, str] = field(default_factory=dict)
+
+    def pointers(self) -> Iterator[Pointer]:
+        """Its arguments and its result that may lead to a text."""
+        for each, value in zip(self.begin.parameters, self.values):
+            if value and is_text(each.type):
+                yield Pointer(self.place, value)
+        if self.result and self.begin.result and is_text(self.begin.result):
+            yield Pointer(self.back, self.result)
 
 
 class Where:
@@ -270,6 +282,7 @@ class Calls:
                 self.result(call, base + move.place)
 
     def result(self, call: Call, place: int) -> None:
+        call.back = place
         if not self.where:
             self.asks.append((place, call, True))
         elif call.is_told:
@@ -319,13 +332,25 @@ def inlined_call(frames: list[Frame], begin: Begin) -> list[Union[str, Frame]]:
     return [frames[over - 1].function, *frames[over:]] if over > 0 else []
 
 
-def said_value(asked: Asked, kind: Type, value: Optional[int]) -> str:
+def is_text(kind: Type) -> bool:
+    return bool(kind["kind"] == "pointer" and "char" in kind["name"])
+
+
+def add_texts(asked: Asked, calls: Sequence[Call]) -> None:
+    """Looks for the texts of calls that are told."""
+    found = texts_of(asked, [each for call in calls for each in call.pointers()
+                             if each.address < asked.log.memory and not asked.named.is_read_only(each.address)])
+    for call in calls:
+        call.texts = found
+
+
+def said_value(asked: Asked, kind: Type, value: Optional[int], text: str = "") -> str:
     if value is None:
         return "unknown"
     if kind["kind"] in ("fields", "array"):
         return f"{value:08x}"
     said = value_text(Leaf("", 0, kind), value.to_bytes(8, "little")[:max(1, kind["size"])], asked.name_of)
-    return said + (literal(asked.named, value) if kind["kind"] == "pointer" and "char" in kind["name"] else "")
+    return said + (f" {text!r}" if text else literal(asked.named, value) if is_text(kind) else "")
 
 
 def literal(named: Elf, address: int) -> str:
@@ -339,11 +364,14 @@ def literal(named: Elf, address: int) -> str:
 
 def said_result(asked: Asked, call: Call) -> Optional[str]:
     """None if there is none."""
-    return said_value(asked, call.begin.result, call.result) if call.begin.result and call.rows is not None else None
+    if call.begin.result is None or call.rows is None:
+        return None
+    return said_value(asked, call.begin.result, call.result, call.texts.get(Pointer(call.back, call.result or 0), ""))
 
 
 def said_arguments(asked: Asked, call: Call) -> dict[str, str]:
-    return {each.name: said_value(asked, each.type, value) for each, value in zip(call.begin.parameters, call.values)}
+    return {each.name: said_value(asked, each.type, value, call.texts.get(Pointer(call.place, value or 0), "") if is_text(each.type) else "")
+            for each, value in zip(call.begin.parameters, call.values)}
 
 
 def call_line(call: Call, asked: Asked) -> list[str]:
@@ -378,6 +406,7 @@ def calls_of(asked: Asked, function: Function, most: int = TOLD, where: Optional
     found = Calls(asked, function, most, where)
     read(asked.chunks(), found)
     found.finish()
+    add_texts(asked, found.told)
     return found
 
 

@@ -18,6 +18,7 @@ OTHER_LINES, WORDS = re.compile(rb"\n[a-z][^\n]*"), b"\nword "
 LOAD, STORE = b"load", b"store"
 FIRST_HART = b"\n0 "
 DIGITS = "0123456789abcdef"
+TOP = 1 << 32               # addresses
 
 
 def chunks(log_name: str, elf_name: str, command: str = "joint", *words: str, log: Optional[Log] = None) -> Iterator[bytes]:
@@ -122,6 +123,21 @@ def rows_with(text: bytes, pattern: Pattern[bytes]) -> Iterator[bytes]:
             begin, end = text.rfind(b"\n", 0, found.end()) + 1, text.find(b"\n", found.end())
             end = len(text) if end < 0 else end
             yield text[begin:end]
+
+
+def few_ranges(ranges: Iterable[tuple[int, int]], most: int) -> list[tuple[int, int]]:
+    """Ranges of addresses, made so few: those that lie near to each other are one."""
+    found, near = sorted((first, min(end, TOP)) for first, end in ranges), 1
+    while True:
+        merged: list[tuple[int, int]] = []
+        for first, end in found:
+            if merged and first <= merged[-1][1] + near:
+                merged[-1] = merged[-1][0], max(end, merged[-1][1])
+            else:
+                merged.append((first, end))
+        if len(merged) <= most:
+            return merged
+        found, near = merged, near * 4
 
 
 def touching(first: int, end: int, *kinds: bytes) -> Pattern[bytes]:

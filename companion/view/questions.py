@@ -5,7 +5,7 @@ import contextlib
 from typing import Any, Iterable, Iterator, Optional, Sequence, Union
 
 from ..call.errors import CompanionError
-from ..questions.calls import Call, Calls, said_arguments, said_result
+from ..questions.calls import Call, Calls, add_texts, said_arguments, said_result
 from ..questions.functions import function_of
 from ..questions.history import History
 from ..questions.reading import Asked, read
@@ -61,6 +61,7 @@ def questions_data(page: Page, crash: Analysis, suspects: Sequence[Suspect], rac
     read(asked.chunks(), stacks, *every)
     for each in calls:
         each.finish()
+    add_texts(asked, [call for each in calls for call in each.told])
     return {"most": TOLD, "leftOut": asked.left_out(), "variables": [history_data(page, found) for found in histories],
             "functions": [{"name": found.function.name, "title": found.function.title(), "calls": found.total,
                            "rows": [call_row(page, call, asked) for call in found.told]} for found in calls]}

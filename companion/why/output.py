@@ -12,7 +12,7 @@ from ..call.options import read_words
 from ..call.text import counted, number
 from ..recording.answers import place_of as code_place, put_answer
 from ..recording.calls import entries_of
-from ..recording.chunks import after, chunks, places, touching_any
+from ..recording.chunks import after, chunks, few_ranges, places, touching_any
 from ..recording.cut import count_of, hart_at
 from ..recording.elf import Elf
 from ..recording.instruction import A0
@@ -39,7 +39,6 @@ MOST_ROWS, MOST_FRAMES, MOST_RANGES = 32000000, 4, 8
 MOST_LIBRARY_CALLS = 16     # over a write: a library's printf has eight of its own
 UNKNOWN = "\ufffd"          # in place of a byte that isn't known
 ASKED, SET = b" 00000073 ecall", b"| a0="
-TOP = 1 << 32
 STREAMS = {1: "the output", 2: "err"}
 
 
@@ -62,7 +61,7 @@ class Reader:
         self.memory, self.stacks, self.numbers = Memory(elf, not log.dropped), stacks, numbers
         self.calls = {(call.hart, call.count): call for call in log.system_calls()}
         self.wanted = sorted(numbers[call] for call in self.calls.values() if call in numbers)
-        self.ranges = ranges(numbers)
+        self.ranges = few_ranges(((call.address, call.address + call.size) for call in numbers if call.size), MOST_RANGES)
         self.touched = touching_any(self.ranges)
         self.a0 = {b"%d" % hart: interval.registers[A0] for hart, interval in log.first_intervals().items()}      # as it was last set
 
@@ -114,21 +113,6 @@ class Reader:
             if name in left:
                 left.remove(name)
                 self.a0[name] = int(text[end + len(SET):end + len(SET) + 8], 16)
-
-
-def ranges(calls: Iterable[SystemCall]) -> list[tuple[int, int]]:
-    """The addresses that calls name, in few ranges: what lies near to each other is one."""
-    found, near = sorted((call.address, min(call.address + call.size, TOP)) for call in calls if call.size), 1
-    while True:
-        merged: list[tuple[int, int]] = []
-        for first, end in found:
-            if merged and first <= merged[-1][1] + near:
-                merged[-1] = merged[-1][0], max(end, merged[-1][1])
-            else:
-                merged.append((first, end))
-        if len(merged) <= MOST_RANGES:
-            return merged
-        found, near = merged, near * 4
 
 
 def place_of(places: Places, write: Write) -> str:

@@ -7,8 +7,9 @@ import common
 
 from companion.recording.elf import Elf
 from companion.questions import calls, debugger
-from companion.questions.functions import parameters_of
+from companion.questions.functions import function_of, parameters_of
 from companion.questions.reading import asked_of, read
+from companion.questions.texts import MOST_TEXT, Pointer, text_in, texts_of
 
 LINE = re.compile(r"^  (\d+):(\d+) +(\(.*?\)) +(?:-> (\w+).*?)? +(?:([\d,]+) rows?|no return) +(from|jumps from) (.*)$", re.M)
 
@@ -95,6 +96,23 @@ class CallsTest(case.Case):
                 found.finish()
                 said.append(calls.report(found))
         self.assertEqual(said[1:], said[:1] * 2)
+
+    def test_a_text_that_changes_is_the_one_of_then(self):
+        """put_text copies its second argument to the first: at its return the text is there, and before its call it isn't."""
+        log, elf = self.record("heap", "--seed", "1"), self.elf("heap")
+        with asked_of(log, elf, {}) as asked:
+            told = [call for call in calls.calls_of(asked, function_of(asked.named, "put_text"), 1000).told if call.rows is not None]
+            copied = {Pointer(call.back, call.values[0]): calls.literal(asked.named, call.values[1])[2:-1] for call in told}
+            found = texts_of(asked, copied)
+            self.assertGreater(len(found), len(copied) // 2)    # (not each is followed by a 0)
+            for pointer, text in found.items():
+                self.assertTrue(text.startswith(copied[pointer]), (pointer, text))
+            self.assertEqual(texts_of(asked, [Pointer(call.place, call.values[0]) for call in told]), {})
+
+    def test_texts_end_and_are_printed(self):
+        for data, said in ((b"abc\0xyz", "abc"), (b"a" * MOST_TEXT, "a" * MOST_TEXT), (b"\0abc", ""), (b"ab\x01\0", ""), (b"", "")):
+            self.assertEqual(text_in(list(data)), said)
+        self.assertEqual([text_in([97, None, 0]), text_in([97, 0, None]), text_in([None])], ["", "a", ""])
 
     def test_a_function_whose_parts_a_compiler_inlined_and_put_back(self):
         log, elf = self.crash("libc_tree")
