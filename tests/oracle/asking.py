@@ -7,7 +7,7 @@ import subprocess
 import sys
 from collections import Counter
 from dataclasses import dataclass, field
-from typing import Any, Dict, List, NamedTuple, Optional, Sequence
+from typing import Any, Dict, List, NamedTuple, Optional, Sequence, Tuple
 
 from .building import Recorded
 from .machine import Machine
@@ -84,6 +84,7 @@ class Asked:
     tally: Tally
     environment: Dict[str, str] = field(default_factory=dict)
     differing: Counter[str] = field(default_factory=Counter)
+    texts: Dict[Tuple[int, int], str] = field(default_factory=dict)     # {row and address: the text there before the row}
 
     @property
     def has_types(self) -> bool:

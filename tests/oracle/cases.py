@@ -99,6 +99,8 @@ CASES = [
     Case("saved", ["-Os", G, "-msave-restore"], [], restores),
     Case("loops", ["-Os", G], [], all_of(ask_export)),
     Case("gcd", ["-Os", G], [], why()),
+    Case("texts", ["-O1", G], [], calls("touch", "weigh", "change"), first=b"read and more"),
+    Case("texts-harts", ["-O0", G], ["--interval", "60"], calls("touch", "weigh", "change"), first=b"read and more"),
     Case("start-plain", ["-O2"], [], calls("main"), has_gdb=False),
     Case("moves", ["-O2", G], [], calls("move", where=[("move", "n", "==", "5")])),
     Case("waits", ["-O0", G], ["--limit", "40000", "--interval", "2000"], why("--rows", "5000")),

@@ -3,15 +3,17 @@ from __future__ import annotations
 
 import operator
 import random
-from typing import Any, Dict, List, Optional, Sequence, Tuple
+from typing import Any, Dict, List, Optional, Sequence, Set, Tuple
 
 from .asking import Asked
 from .machine import A0, Frame
+from .of_core import along
 from .program import number_text
 
 COMPARE = {"==": operator.eq, "!=": operator.ne, "<": operator.lt, "<=": operator.le, ">": operator.gt, ">=": operator.ge}
 PLAIN: Dict[str, Any] = {"kind": "bytes", "size": 4}
 LONGEST_TEXT, MOST = 40, 12
+LOWEST, MEMORY = 4096, 1 << 20              # addresses of the recordings' memory
 Parameter = Tuple[str, Dict[str, Any], str]     # its name, its type, its register by DWARF
 
 
@@ -37,12 +39,44 @@ def registers_of(parameters: Sequence[Parameter], is_clone: bool) -> List[Option
     return found
 
 
-def text_of(asked: Asked, kind: Dict[str, Any], words: Sequence[int]) -> Optional[str]:
-    """What registers hold, as docs/COMMANDS.md shows it."""
+def take_texts(asked: Asked, symbol: str, frames: Sequence[Frame]) -> None:
+    """Of pointers that may lead to a text which changes: what was there at the call, or behind its return."""
+    wanted: Dict[int, Set[int]] = {}
+    told = parameters(asked, symbol)
+    places = [place[0] for (_, kind, _), place in zip(told, registers_of(told, "." in symbol)) if place and is_text(kind)]
+    for frame in frames:
+        wanted.setdefault(frame.row, set()).update(frame.registers[A0 + place] for place in places)
+        wanted.setdefault(row_behind(asked, frame), set()).add(frame.result[0])
+    for row, _, memory in along(asked.machine, list(wanted)) if is_text_given(asked, symbol) or places else ():
+        for address in wanted[row]:
+            data = memory.bytes(address, LONGEST_TEXT)
+            end = next((at for at, byte in enumerate(data) if byte is None or not 32 <= byte < 127), LONGEST_TEXT)
+            is_over = end == LONGEST_TEXT or data[end] == 0
+            asked.texts[row, address] = bytes(byte or 0 for byte in data[:end]).decode("ascii") if is_over else ""
+
+
+def is_text(kind: Dict[str, Any]) -> bool:
+    return bool(kind["kind"] == "pointer" and "char" in kind["name"])
+
+
+def is_text_given(asked: Asked, symbol: str) -> bool:
+    told = asked.program.types["functions"].get(symbol)
+    return bool(told) and is_text(told["result"])
+
+
+def row_behind(asked: Asked, frame: Frame) -> int:
+    """The number of the row behind a call's return."""
+    return asked.machine.at.get((frame.hart, -1 if frame.end is None else frame.end), len(asked.machine.rows))
+
+
+def text_of(asked: Asked, kind: Dict[str, Any], words: Sequence[int], row: int) -> Optional[str]:
+    """What registers hold before a row, as docs/COMMANDS.md shows it."""
     data = b"".join(word.to_bytes(4, "little") for word in words)[:max(1, kind["size"])]
     said = number_text(kind, list(data), asked.program)
-    if said and kind["kind"] == "pointer" and "char" in kind["name"]:
-        text = asked.machine.image.text(words[0], LONGEST_TEXT)
+    if said and is_text(kind):
+        text = asked.machine.image.text(words[0], LONGEST_TEXT) if asked.machine.image.is_read_only(words[0]) else ""
+        if not text and LOWEST <= words[0] < MEMORY and not asked.machine.image.is_read_only(words[0]):
+            text = asked.texts.get((row, words[0]), "")
         said += f" {text!r}" if text else ""
     return said
 
@@ -55,7 +89,7 @@ def arguments(asked: Asked, symbol: str, frame: Frame) -> Dict[str, Tuple[Option
     for (name, kind, register), place in zip(told, registers_of(told, "." in symbol)):
         value = None
         if place:
-            value = text_of(asked, kind, frame.registers[A0 + place[0]:A0 + sum(place)])
+            value = text_of(asked, kind, frame.registers[A0 + place[0]:A0 + sum(place)], frame.row)
         found[name] = value, bool(register) or not is_named
     return found
 
@@ -66,7 +100,8 @@ def result(asked: Asked, symbol: str, frame: Frame) -> Tuple[Optional[str], bool
     kind = told["result"] if told else PLAIN
     if kind["kind"] == "void" or frame.end is None:
         return None, True
-    value = text_of(asked, kind, frame.result[:2 if kind["size"] > 4 else 1]) if kind["kind"] != "other" else None
+    words = frame.result[:2 if kind["size"] > 4 else 1]
+    value = text_of(asked, kind, words, row_behind(asked, frame)) if kind["kind"] != "other" else None
     return value, value is not None
 
 
@@ -93,6 +128,8 @@ def ask_function(asked: Asked, name: str, draw: Optional[random.Random] = None) 
     true = frames_of(asked, name)
     if not asked.recorded.is_whole and entries and entries[0]["from"] is None and entries[0]["count"]:
         entries = entries[1:]                   # from before the first row: nothing tells if it was a call
+    for address, symbol in symbols.items():
+        take_texts(asked, symbol, [frame for frame in true if frame.target == address])
     if asked.same("calls: how many", words, len(entries), len(true)):
         for one, frame in zip(entries, true):
             compare(asked, words, symbols[frame.target], one, frame)
