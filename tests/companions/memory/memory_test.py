@@ -64,9 +64,13 @@ CASES = (
     ("moved", findings.HEAP, "store of 1, 419 bytes after a block of 8 bytes", "set"),
     ("local_member_after", findings.MEMBER, "store of 1, 0 bytes after name.text (12 bytes)", "local_member_after"),
     ("clone_member_after", findings.MEMBER, "store of 1, 0 bytes after name.text (12 bytes)", "set_of_clone"),
+    ("beside_a_lost_block", findings.HEAP, "store of 1, 0 bytes after a block of 8 bytes", "set"),
+    ("member_pointer_after", findings.MEMBER, "store of 1, 0 bytes after name.text (12 bytes)", "set"),
 )
 PLAIN = "after_scope",                          # cases of the program that is compiled without optimization
 NUMBERS = {name: at for at, (name, *_) in enumerate(CASES)}
+# MEMORY_CASES can name some, for mutants.py.
+TRIED = [each for each in CASES if each[0] in os.environ.get("MEMORY_CASES", each[0]).split()]
 programs = {}
 
 
@@ -153,7 +157,7 @@ class MemoryTest(case.Case):
 
     def test_each_kind_is_told_where_it_happens(self):
         self.needs_addr2line()
-        for name, kind, text, function in CASES:
+        for name, kind, text, function in TRIED:
             with self.subTest(name):
                 said = self.lines_of(self.log(name, "b"), self.elf_of(name))
                 told = re.search(r"(?:1\. |  )%s: (.*)\n(?:     it is in (.*))?" % kind, said)
@@ -162,7 +166,7 @@ class MemoryTest(case.Case):
                 self.assertTrue((told[2] or "").startswith(function), said)
 
     def test_good_twins_are_silent(self):
-        for name, *_ in CASES:
+        for name, *_ in TRIED:
             for hart in (0, 1):
                 if hart and name == "lends":
                     continue
@@ -171,7 +175,7 @@ class MemoryTest(case.Case):
         self.assertNotIn("memory-leak", self.lines_of(self.log("leak", "g"), self.built))
 
     def test_another_hart_is_told_the_same(self):
-        for name, kind, text, _ in CASES:
+        for name, kind, text, _ in TRIED:
             if name in ("leak", "lends"):       # (no finding; of two harts by itself)
                 continue
             with self.subTest(name):
@@ -187,7 +191,7 @@ class MemoryTest(case.Case):
 
     def test_of_a_lost_beginning_nothing_is_told_that_needs_it(self):
         """Each end of a good recording is silent, too."""
-        for name in ("heap_after", "freed", "resized", "stack_after", "unwritten_copied", "depth", "asked"):
+        for name in ("heap_after", "freed", "resized", "stack_after", "unwritten_copied", "depth", "asked", "beside_a_lost_block"):
             log = self.record_in_intervals(name)
             with closing(open_log(log)) as source:
                 for end in (source.end(rows) for rows in (20, 60, 200)):
@@ -227,9 +231,15 @@ class MemoryTest(case.Case):
                          [each["text"] for each in found])
 
     def test_blocks_of_optimized_code(self):
-        """Its instructions leave their blocks: nothing is said of them."""
+        """Its instructions leave their blocks: nothing is said of them. Of a compiler that isn't GCC it isn't known."""
         run = self.run_of(common.record("optimized", self.built, "--seed", "3", "--input", self.given("after_scope", "b")), self.built)
         self.assertEqual(run.findings.in_order(), [])
+        program = Program(Elf(self.plain))
+        first = program.function_named("after_scope")
+        for producer, is_plain in (("GNU C17 12.2.0 -g", True), ("GNU C17 12.2.0 -O2 -g -O0", True), ("GNU C17 12.2.0 -g -Os", False),
+                                   ("GNU C17 12.2.0 -O0 -O", False), ("clang version 14.0.6", False), ("GNU C17" + " -g" * 100, False)):
+            program.entries[first].unit = program.entries[first].unit._replace(producer=producer)
+            self.assertEqual(program.is_plain(first), is_plain, producer)
 
     def test_a_stack_of_its_own(self):
         """A hart that changes its stack to an array hasn't run into that."""

@@ -190,14 +190,15 @@ NOINLINE static void over_return_address(unsigned bad)
 
 NOINLINE static void no_pointer(unsigned bad)
 {
-    first = (struct node *)3;               /* a mark */
     copy((char *)&first, bad ? "text" : (char *)&kept_place, 4);
     turn += 0;
     nodes[0].next = &nodes[1];
+    first = (struct node *)-4;              /* a mark, of which a part and one of a pointer are no pointer */
     char *bytes = (char *)&first;
     for (unsigned i = 0; i < 4; i++)
         set(bytes, i, bad ? 'x' : ((char *)&nodes[0].next)[i]);
     nodes[1].next = first;
+    first = (struct node *)3;               /* another mark */
 }
 
 NOINLINE static void unwritten_block(unsigned bad)
@@ -245,9 +246,17 @@ NOINLINE static void unwritten_out(unsigned bad)
     free(text);
 }
 
+NOINLINE static void leave_in_frame(struct node *node)
+{
+    struct node *volatile places[16];
+    places[1] = node;
+    sink = places[1] != 0;
+}
+
 NOINLINE static void leak(unsigned bad)
 {
     struct node *node = calloc(1, sizeof *node);
+    leave_in_frame(node);
     nodes[2].next = bad ? 0 : node;
 }
 
@@ -317,12 +326,16 @@ NOINLINE static void array_of_length(unsigned bad)
     }
 }
 
-/* Of code without optimization alone it is known. */
+NOINLINE static void choose_place(char *place, unsigned bad)
+{
+    kept_place = bad ? place : letters;
+}
+
 NOINLINE static void after_scope(unsigned bad)
 {
     {
         char text[8];
-        kept_place = bad ? text : letters;
+        choose_place(text, bad);
         set(text, 1, 1);
         set(kept_place, 1, 1);
     }
@@ -361,10 +374,32 @@ NOINLINE static char *unknown(const char *place)
 
 NOINLINE static void after_unknown(unsigned bad)
 {
-    char *text = calloc(8, 1), *other = calloc(8, 1);
-    set(text + (other - text), 7, 1);
+    char *text = calloc(8, 1), *other = calloc(8, 1), *third = calloc(8, 1), *fourth = calloc(8, 1);
+    unsigned between = (unsigned)other - (unsigned)text;
+    set(unknown(third) + between, 7, 1);        /* it is in the fourth one */
     set(unknown(text), 7 + bad, 1);
-    sink = other[7];
+    sink = fourth[7];
+}
+
+/* Of a log that begins in the calls between, the second block isn't known, but it isn't the end of the first one. */
+NOINLINE static void beside_a_lost_block(unsigned bad)
+{
+    char *text = malloc(8), *other = calloc(8, 1);
+    free(text);
+    sink = deep(60);
+    text = malloc(8);
+    set(other, 3, 1);
+    set(text, 7 + bad, 1);
+}
+
+NOINLINE static char *text_of(struct name *name)
+{
+    return name->text;
+}
+
+NOINLINE static void member_pointer_after(unsigned bad)
+{
+    set(text_of(&names[1]), 11 + bad, 1);
 }
 
 NOINLINE static void freed_unknown(unsigned bad)
@@ -406,7 +441,8 @@ static void (*const cases[])(unsigned) = {
     member_after, block_member_after, stack_after, after_return, depth, over_return_address, no_pointer, unwritten_block,
     unwritten_local, unwritten_copied, unwritten_out, leak, overlapping, lends, freed_nowhere,
     unwritten_size, asked, array_of_length, after_scope,
-    after_unknown, freed_unknown, after_return_unknown, unwritten_bits, moved, local_member_after, clone_member_after};
+    after_unknown, freed_unknown, after_return_unknown, unwritten_bits, moved, local_member_after, clone_member_after,
+    beside_a_lost_block, member_pointer_after};
 
 static void work(int hart)
 {
