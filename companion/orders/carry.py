@@ -11,9 +11,9 @@ from .marks import CALL, FAULT, Mark, Order, Point
 from .meaning import Turn, access_of
 from .runs import Runs
 
-LEAST_TURNS, MOST_TURNS = 2000, 1 << 20     # that a hart gets in which its mark is looked for
+LEAST_TURNS, MOST_TURNS = 2000, 128000      # of a hart, in which its mark is looked for
 TIMES = 8                                   # so many times more, until it is there
-SPIN_TURNS, SPIN_CODE = 120, 24             # of a hart that waits the last turns have so few addresses of code
+SPIN_TURNS, SPIN_CODE = 120, 24             # of a hart that waits so many turns have so few addresses of code
 MOST_WAITS = 4                              # so often others let a hart continue up to one mark
 BEHIND = 64                                 # turns that the last hart gets, once it goes round and round
 KEPT, FORBIDDEN, GONE = "kept", "forbidden", "gone"
@@ -93,8 +93,8 @@ class Carrier:
     def stuck(self, mark: Mark, spin: Spin, kept: List[Piece]) -> Step:
         """A hart that nothing lets continue stops as it begins to wait."""
         self.pieces = [*kept, Piece(mark.hart, spin.begin + 1)]
-        return Step(mark, FORBIDDEN, f"it can't come: hart {mark.hart} waits for ever in "
-                    f"{self.where(spin.row)} for {self.runs.meaning.name(spin.word)}")
+        return Step(mark, FORBIDDEN, f"it can't come: hart {mark.hart} waits in {self.where(spin.row)} for "
+                    f"{self.runs.meaning.name(spin.word)}, which no other hart alone changes")
 
     def points(self, turns: Sequence[Turn]) -> List[Optional[Point]]:
         return self.runs.meaning.points(turns)
@@ -143,7 +143,7 @@ def spinning(turns: Sequence[Turn]) -> Optional[Spin]:
     code = {row.pc for row in tail}
     looks = [row for row in tail if row.load and "(sp)" not in row.text]
     values = {(row.load.address, row.load.value) for row in looks if row.load}
-    if len(tail) < SPIN_TURNS or len(code) > SPIN_CODE or not looks or len(values) > 2 * SPIN_CODE:
+    if len(tail) < SPIN_TURNS - 1 or len(code) > SPIN_CODE or not looks or len(values) > 2 * SPIN_CODE:
         return None
     begin = next((at for at in range(len(turns), 0, -1) if not is_in(turns[at - 1], code)), 0)
     words = [row.load.address & ~3 for row in looks if row.load]
@@ -153,4 +153,5 @@ def spinning(turns: Sequence[Turn]) -> Optional[Spin]:
 
 
 def is_in(turn: Turn, code: AbstractSet[int]) -> bool:
-    return turn.row is not None and turn.row.pc in code
+    """Also of a turn that ended without an access."""
+    return turn.row is None or turn.row.pc in code

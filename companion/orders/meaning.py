@@ -1,7 +1,7 @@
 """Tells points of rows: what the turns of a hart ended with, by meaning, in one build of a program."""
 from __future__ import annotations
 
-from typing import Callable, Iterator, List, NamedTuple, Optional, Sequence, Tuple
+from typing import Callable, Iterator, List, Match, NamedTuple, Optional, Sequence, Tuple
 
 from ..recording.calls import entries_of
 from ..recording.chunks import OTHER_LINES
@@ -70,20 +70,22 @@ class Meaning:
         self.places.fetch(at for row, calls in turns if row for at in (row.pc, *calls))
         return [self.point(row, calls) if row else None for row, calls in turns]
 
-    def turns(self, text_of: Callable[[Interval], bytes],
-              intervals: Sequence[Interval]) -> Iterator[Turn]:
-        """Each turn of a hart, by what `replay` prints of its intervals."""
+    def turns(self, text_of: Callable[[Interval], bytes], intervals: Sequence[Interval],
+              first: int) -> Iterator[Turn]:
+        """The turns of a hart from one on, by what `replay` prints of its intervals."""
         stacks = Stacks(self.entries, 2)        # which follows places in a chunk, as of several harts
         for interval in intervals:
             text = b"\n" + text_of(interval).rstrip(b"\n")
             stacks.take(OTHER_LINES.sub(b"", text))
-            yield from turns_of_chunk(text + b"\n", stacks)
+            matches = list(turn_matches(text + b"\n"))
+            yield from turns_of_chunk(matches[max(0, first):], stacks)
+            first -= len(matches)
 
 
-def turns_of_chunk(text: bytes, stacks: Stacks) -> Iterator[Turn]:
+def turns_of_chunk(matches: Sequence[Match[bytes]], stacks: Stacks) -> Iterator[Turn]:
     """Those of an interval that was followed last."""
     chunk, place = stacks.chunk, 0
-    for match in turn_matches(text):
+    for match in matches:
         row = parse_row(match[0])
         if row:
             head = b"\n%d %d " % (row.hart, row.ic)

@@ -16,6 +16,7 @@ from ..call.saving import Target, save_together, target
 from ..call.scratch import Scratch
 from ..call.text import counted
 from ..recording.answers import LONGEST, put_answer
+from ..recording.book import check_book
 from ..recording.log import load_log
 from ..recording.opened import Program
 from ..recording.sources import source_folders
@@ -63,8 +64,8 @@ how many of as many end well in the recorded build says what that is worth. The 
     --json           prints one JSON object in place of the text (docs/ORDERS.md)
 
 docs/ORDERS.md tells how an order is written by hand. Companions show; the program proves."""
-FORM = ("recheck LOG ELF BOOK NEW | ORDER NEW | FOLDER --elfs DIR [--tries N] [--input FILE] [--output N:BYTE] [--names ELF] "
-        "[--old-names ELF] [--source DIR] [--order FILE] [--save NAME] [--junit FILE] [--json]")
+FORM = "recheck LOG ELF BOOK NEW | ORDER NEW | FOLDER --elfs DIR [--tries N] [--input FILE] [--output N:BYTE] [--names ELF] " \
+    "[--old-names ELF] [--source DIR] [--order FILE] [--save NAME] [--junit FILE] [--json]"
 VALUES = "--tries --input --output --names --old-names --source --order --save --elfs --junit".split()
 OF_LOG = "--input", "--output", "--old-names", "--order"
 MOST_ORDERS = 1000          # of a folder
@@ -110,6 +111,7 @@ def recorded_order(names: Sequence[str], given: Mapping[str, str], work: Work) -
         meaning = Meaning(program)
         telling = Telling(work.quick, meaning, options, offset, work.tries, work.jobs)
         if options["--harts"] == "1":
+            check_book(log, elf_name, book, [f"--input={options['--input']}"] if "--input" in options else [])
             order = telling.of_one_hart()
         else:
             check_recording(log, elf_name, book, options, byte is not None)

@@ -171,7 +171,8 @@ class Runs:
         they need."""
         pieces = joined([*before, Piece(hart, most)])
         prefix = turns_of(before)
-        limit = min(self.limit, LEAST_LOOK + PER_TURN * (len(prefix) + most))
+        most_counts = self.limit_of(GROWN)
+        limit = min(most_counts, LEAST_LOOK + PER_TURN * (len(prefix) + most))
         while True:
             made = self.record(Asked(pieces), limit)
             turns = made.turns()
@@ -179,9 +180,9 @@ class Runs:
             taken = len(rest) - len(rest.lstrip(bytes([hart])))
             end = made.read.ends.get(hart)
             is_cut = taken < most and end is not None and end.reason == "limit"
-            if limit == self.limit or (turns.startswith(prefix) and not is_cut):
+            if limit == most_counts or (turns.startswith(prefix) and not is_cut):
                 break
-            limit = min(self.limit, GROWN * limit)
+            limit = min(most_counts, GROWN * limit)
         return self.turns_of(made, hart, prefix.count(hart), min(taken, most))
 
     def turns_of(self, made: Recording, hart: int, first: int, most: int) -> List[Turn]:
@@ -193,14 +194,16 @@ class Runs:
             names = log.name, self.meaning.elf.name, str(hart), str(interval.number)
             return self.quick.text("replay", "--", *names)
 
-        if mine and mine[0].start > 0:          # which no recording with so large a log and small a limit has
+        if not mine or not most:
+            return []
+        if mine[0].start > 0:                   # which no recording with so large a log and small a limit has
             return [Turn(None, ())] * most
         found: List[Turn] = []
-        for turn in self.meaning.turns(text_of, mine):
+        for turn in self.meaning.turns(text_of, mine, first):
             found.append(turn)
-            if len(found) >= first + most or turn.row and turn.row.ic > MOST_LOOK_ROWS:
+            if len(found) >= most or turn.row and turn.row.ic > MOST_LOOK_ROWS:
                 break
-        return found[first:]
+        return found
 
     def command(self, book: str, input_name: str) -> str:
         """What to type for a recording of these turns."""

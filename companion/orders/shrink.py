@@ -54,7 +54,8 @@ left is made plain: digits 0, letters a.
 
 The answer is the same on each machine. Ctrl-C, TERM and HUP end the search (130, 143, 129): the shortest that
 was found is saved. BOOK has to be LOG's, as `audit` says. Companions show; the program proves."""
-FORM = "shrink LOG ELF BOOK NEWLOG NEWBOOK | NEW --input FILE [--says TEXT] [--seconds N] [--output N:BYTE] [--names ELF] [--source DIR] [--order FILE] [--json] [-- WORD..]"
+FORM = "shrink LOG ELF BOOK NEWLOG NEWBOOK | NEW --input FILE [--says TEXT] [--seconds N] [--output N:BYTE] [--names ELF] " \
+    "[--source DIR] [--order FILE] [--json] [-- WORD..]"
 INPUT_FORM = "shrink LOG ELF NEW --input FILE [--says TEXT] [--seconds N] [--names ELF] [--source DIR] [--json]"
 ORDER_FORM = "shrink LOG ELF BOOK NEWLOG NEWBOOK [--seconds N] [--output N:BYTE] [--names ELF] [--source DIR] [--order FILE] [--json] [-- WORD..]"
 LONGEST_SEARCH = 1 << 20    # seconds

@@ -91,11 +91,13 @@ class OrderFileTest(case.Case):
                            ("below 'end limit'", "  hart 0 waits for b"), ("says the program twice", "program b.elf"),
                            ("says the settings twice", "set --limit=3"), ("an escape is none of", r'input "\q"'),
                            ("an escape is none of", r'input "\x4"'), ("no more orders", "power 3 of 2"),
-                           ("nowhere/in: No such file", "input-file nowhere/in"), ("no line of an order", "hart 0 until load a in b #9999999999")):
+                           ("nowhere/in: No such file", "input-file nowhere/in"),
+                           ("no line of an order", "hart 0 until load a in b #9999999999")):
             with self.subTest(line):
                 self.refused_line(said, line)
         for said, line in (("no setting of record", "set --harts=two"), ("no setting of record", "set --seed=1"),
-                           ("no setting of record", "set harts=2"), ("--harts is 1 to 16", "set --harts=17"), ("says --limit twice", "set --limit=1 --limit=2")):
+                           ("no setting of record", "set harts=2"), ("--harts is 1 to 16", "set --harts=17"),
+                           ("says --limit twice", "set --limit=1 --limit=2")):
             with self.subTest(line):
                 name = common.written(common.path("set.order"), f"{order_file.HEAD}\nprogram a\n{line}\n")
                 self.assertIn(f"line 3: '{line}': ", self.refuses_here(2, order_file_reader, name))
@@ -114,7 +116,8 @@ class OrderFileTest(case.Case):
     def test_files_that_are_no_orders(self):
         for data, said in ((b"", "first line has to be"), (b"zelkuma order 2\n", "another version than 1"), (b"\xff\n", "first line"),
                            ((order_file.HEAD + "\n" + "#" * order_file.LARGEST).encode(), "first line"),
-                           ((order_file.HEAD + "\n").encode(), "no line 'program"), ((order_file.HEAD + "\nprogram a\nset --harts=2\n").encode(), "no line 'hart N until")):
+                           ((order_file.HEAD + "\n").encode(), "no line 'program"),
+                           ((order_file.HEAD + "\nprogram a\nset --harts=2\n").encode(), "no line 'hart N until")):
             with self.subTest(data[:40]):
                 name = common.written(common.path("none.order"), data)
                 self.assertIn(said, self.refuses_here(2, order_file_reader, name))

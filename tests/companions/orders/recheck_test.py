@@ -161,7 +161,8 @@ class RecheckTest(case.Case):
         limit = max(int(line.split(" ")[3]) for line in self.program("list", common.record(
             "long", new, "--harts", "4", "--limit", "1000000", "--seed", "1")).splitlines())
         short = common.written(common.path("short.order"), text.replace("--limit=1000000", f"--limit={limit // 4}"))
-        self.verdict(0, "HOLDS", short, new, *FEW)
+        told = self.verdict(0, "HOLDS", short, new, "--tries", "60")
+        self.assertGreater(told["slow"], 0)
         shorter = common.written(common.path("shorter.order"), text.replace("--limit=1000000", f"--limit={limit // 40}"))
         self.verdict(11, "ENDS BADLY, but otherwise, by the order itself", shorter, new, *FEW)
 
