@@ -93,6 +93,8 @@ calls LOG heap.elf mian => 4 heap.elf has no mian; near it: main
 seeds 1 10 --format 2 heap.elf LOG2 BOOK2 => 2 the options of record stand behind --
 shrink LOG heap.elf BOOK NEW NEWBOOK => 2 there is nothing to shrink
 shrink LOG heap.elf BOOK => 2 NEWLOG is missing
+recheck LOG heap.elf BOOK => 2 3 names are given
+recheck LOG heap.elf => 2 is no order of harts
 """
 
 

@@ -71,6 +71,7 @@ class Calls:
             ("at", *names, "hang.c:1", "1"), ("whatif", *names, self.book, "0:5", "--skip"),
             ("export", *names, "--lcov", self.new), ("triage", self.folder, "--elfs", self.elf),
             ("again", *names, self.book, self.new), ("shrink", *names, self.book, self.new, self.new + "2"),
+            ("recheck", *names, self.book, self.elf, "--order", self.new),
             ("seeds", "1", "9", "--", self.elf, self.new, self.new + "2")]
 
     def check_clean(self, words):
