@@ -201,7 +201,10 @@ class Reading:
 
     def input_file(self, found: Dict[str, str]) -> None:
         self.once(self.order.input is not None, "the input")
-        name = os.path.join(os.path.dirname(self.name), name_of(found["word"]))
+        beside = name_of(found["word"])
+        if beside != os.path.basename(beside):      # an order may come from elsewhere
+            self.refuse(f"{beside} is no file beside this one")
+        name = os.path.join(os.path.dirname(self.name), beside)
         check_regular(name)
         if os.path.getsize(name) > MOST_INPUT:
             self.refuse(f"{name} has over {MOST_INPUT} bytes")

@@ -5,8 +5,8 @@ import random
 import case
 import common
 from companion.orders import order_file
-from companion.orders.again import settings_of
 from companion.orders.marks import EXIT, FAULT, LIMIT, OUTPUT, Ended, Mark, Order, Point, Power
+from companion.recording.head import read_head
 
 BY_HAND = """zelkuma order 1
 # a hart holds the filter that another one gives back
@@ -91,7 +91,8 @@ class OrderFileTest(case.Case):
                            ("below 'end limit'", "  hart 0 waits for b"), ("says the program twice", "program b.elf"),
                            ("says the settings twice", "set --limit=3"), ("an escape is none of", r'input "\q"'),
                            ("an escape is none of", r'input "\x4"'), ("no more orders", "power 3 of 2"),
-                           ("nowhere/in: No such file", "input-file nowhere/in"),
+                           ("nowhere.in: No such file", "input-file nowhere.in"),
+                           ("../in is no file beside this one", "input-file ../in"), ("/in is no file beside this one", "input-file /in"),
                            ("no line of an order", "hart 0 until load a in b #9999999999")):
             with self.subTest(line):
                 self.refused_line(said, line)
@@ -142,7 +143,7 @@ class OrderFileTest(case.Case):
         """A file that names no setting means these for ever; the program's may change one day, and then this has to be thought of."""
         elf = self.elf("filters")
         common.record("defaults", elf, "--harts", "1", "--seed", "0")
-        self.assertEqual(settings_of(common.path("defaults.log")), order_file.DEFAULTS)
+        self.assertEqual(read_head(common.path("defaults.log")).settings(), order_file.DEFAULTS)
 
     def test_no_line_takes_long(self):
         """Long lines that are refused, of which each doubling may cost no more than some times as much: of patterns that go back
