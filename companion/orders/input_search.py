@@ -11,6 +11,7 @@ WORDS = re.compile(rb"\w+|[ \t]+|.", re.S)
 BRACKETS = dict(zip(b"([{", b")]}"))
 MOST_GROUPS = 200           # are tried at once
 MOST_IN_VAIN = 2000         # tries of a pass that gain nothing end it
+SMALL = 8                   # from so many pieces on each number is tried: records can have any length
 # Each byte becomes the plain one of its kind, and one that is no text 0.
 PLAIN = ((re.compile(rb"[1-9]"), b"0"), (re.compile(rb"[b-z]"), b"a"), (re.compile(rb"[B-Z]"), b"A"),
          (re.compile(rb"[\x01-\x08\x0b\x0c\x0e-\x1f\x7f-\xff]"), b"\0"))
@@ -76,7 +77,7 @@ class InputSearch:
                 del pieces[at:at + size]
             if size == 1 and len(pieces) == before:
                 break
-            size = max(1, size // 2)
+            size = max(1, size // 2 if size > SMALL else size - 1)
 
     def leave_groups(self) -> None:
         """Leaves out what is between brackets, with them, or the two alone: neither can go without the other."""

@@ -52,7 +52,7 @@ def readers(seed=7):
     return {
         "settings": Reader(lines(500, lambda: f"{word(3, 20)} = {word(2, 12)}", 340, word(31, 31) + " = 5"), 40),
         "table": Reader(lines(800, lambda: ",".join(word(1, 9) for _ in range(5)), 511, "a,b,(12),d"), 1),
-        "packets": Reader(b"".join(packet() for _ in range(700)) + b"\7\3\310\1\2" + b"".join(packet() for _ in range(200)), 150),
+        "packets": Reader(b"".join(packet() for _ in range(700)) + b"\7\3\310\1\2" + b"".join(packet() for _ in range(200)), 20),
         "postfix": Reader(lines(900, postfix, 700, "12+*3"), 8),
         "sections": Reader(lines(200, lambda: "\n".join([f"[{word(3, 9)}]"] + [f"= {word(4, 9)}" for _ in range(6)]), 150,
                                  '[gone]\n= 1\n[-gone]\n"remember me"\n= 2'), 16),

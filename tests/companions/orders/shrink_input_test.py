@@ -1,4 +1,5 @@
 """zelkuma shrink --input: the short input ends as LOG's, by recordings of one's own; the same bytes each time; and what it refuses."""
+import itertools
 import json
 import os
 import re
@@ -6,15 +7,18 @@ import signal
 import subprocess
 import sys
 import time
+from types import SimpleNamespace
 
 import case
 import common
 import inputs
 
 from companion.orders import shrink
-from companion.orders.input_ends import Fault, Loop
-from companion.orders.input_search import groups_of, without_groups
+from companion.orders.input_ends import Fault, InputEnds, Loop
+from companion.orders.input_search import InputSearch, groups_of, without_groups
 from companion.orders.same_end import Faulted
+from companion.orders.shrinking_input import FirstSuspects
+from companion.recording.log import End
 
 
 class ShrinkInputTest(case.Case):
@@ -50,7 +54,7 @@ class ShrinkInputTest(case.Case):
         (log, elf, _), reader = self.recorded(name), self.readers[name]
         said, data = self.shrunk(name, name + ".short")
         self.assertLessEqual(len(data), reader.most, said)
-        self.assertLess(int(re.search(r"by ([\d,]+) recordings", said)[1].replace(",", "")), 1500)
+        self.assertLess(int(re.search(r"by ([\d,]+) recordings", said)[1].replace(",", "")), 1000)
         short = common.record(name + "-short", elf, "--seed", "1", "--input", common.path(name + ".short"), *reader.options)
         if reader.says:
             for one in (log, short):
@@ -138,7 +142,46 @@ def is_searching(process):
         return False
 
 
+def ended(status, reason, value):
+    """A recording that ended so."""
+    return SimpleNamespace(status=status, read=SimpleNamespace(ends={0: End(9, reason, value)}))
+
+
+class Never:
+    """Tries of which none ends as wanted, counted."""
+
+    def __init__(self):
+        self.count, self.wanted = 0, None
+
+    def is_ended(self):
+        return False
+
+    def first(self, candidates, most):
+        self.count += len(list(itertools.islice(candidates, most)))
+
+
 class EndsTest(case.Case):
+    def test_a_null_address_is_not_like_a_wild_one(self):
+        ends = InputEnds(None, None)
+        wild, other, null, code = (ends.rough(ended(*each)) for each in (
+            (10, "LoadOutside", 0xff689c15), (10, "LoadOutside", 4096), (10, "LoadOutside", 4095), (0, "exit", 0xff689c15)))
+        self.assertEqual(wild, other)
+        self.assertEqual(len({wild, null, code, ends.rough(ended(10, "StoreOutside", 4096))}), 4)
+
+    def test_a_pass_ends_that_gains_nothing(self):
+        halves = sum(-(-500 // size) for size in (250, 125, 62, 31, 15, 7, 6, 5, 4, 3, 2, 1))
+        for size, most in ((500, halves), (6000, 2000)):
+            never = Never()
+            InputSearch(never, b"a" * size).cut([b"a"] * size)
+            self.assertEqual(never.count, most)
+        never = Never()
+        InputSearch(never, b"b" * 6000).make_plain(lambda data: b"a" * len(data))
+        self.assertEqual(never.count, 2000)
+
+    def test_a_suspect_that_is_none_of_the_log(self):
+        self.assertEqual(FirstSuspects("f a.c:1", "g a.c:9", True).lines(), ["first suspect: f a.c:1"])
+        self.assertIn("none of LOG's: its cause may be another", FirstSuspects("f a.c:1", "g a.c:9", False).lines()[0])
+
     def test_a_loop_is_like_one_around_it(self):
         wide, narrow = Loop(frozenset((b"1", b"2", b"3"))), Loop(frozenset((b"1", b"3")))
         self.assertTrue(wide.is_like(narrow) and wide.is_like(wide))
