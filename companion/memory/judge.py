@@ -178,6 +178,8 @@ class Judge:
         compiler reaches from this one's pointer."""
         hart, one = access.hart, access.one
         is_static = thing is not None and thing.kind in (GLOBAL, FRAME, MEMBER) and not thing.has_ended(hart, one.pc)
+        if thing is not None and thing.owner not in (0, self.program.function_at(one.pc).first):
+            is_static = False                   # another function's variable: a compiler knows of none beside it
         if not is_static or thing is None:
             found = self.source(access, FULL)
             return found if found and not self.program.is_library(found[0]) else (0, "")

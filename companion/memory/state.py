@@ -37,14 +37,15 @@ class Thing:
     kind     of the six above; a `NUMBER` is the difference of two pointers, and may point anywhere once it is added to one
     begin, end      as they are, without what is before an object whose end may have been meant
     taken, gone     when it was taken and given back
-    is_part  whether it is a part of an object"""
-    __slots__ = "low", "high", "kind", "name", "begin", "end", "taken", "gone", "is_part"
+    is_part  whether it is a part of an object; owner: the function in whose frame it is, by its first address"""
+    __slots__ = "low", "high", "kind", "name", "begin", "end", "taken", "gone", "is_part", "owner"
 
     def __init__(self, low: int, high: int, kind: str, name: str = "", taken: Optional[Event] = None) -> None:
         self.low = self.begin = low
         self.high = self.end = high
         self.kind, self.name, self.taken, self.is_part = kind, name, taken, False
         self.gone: Optional[Event] = None
+        self.owner = 0
 
     @property
     def size(self) -> int:
@@ -70,7 +71,7 @@ class Scoped(Thing):
 
     def __init__(self, thing: Thing, scope: Tuple[int, int], function: Tuple[int, int], hart: Hart) -> None:
         super().__init__(FULL, 0, FRAME, thing.name)
-        self.begin, self.end = thing.begin, thing.end
+        self.begin, self.end, self.owner = thing.begin, thing.end, thing.owner
         self.scope, self.function, self.hart, self.depth = scope, function, hart.number, len(hart.returns)
 
     def holds(self, address: int, size: int) -> bool:

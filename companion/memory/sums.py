@@ -206,7 +206,7 @@ def frame_thing(checks: Checks, hart: Hart, one: Operation, value: Value) -> Opt
         if last is None or last.gone or last_of != (low, high, depth):
             last_of = low, high, depth
             last = Thing(low, high, FRAME, name)
-            last.begin = low if below is None else pointer + begin
+            last.begin, last.owner = low if below is None else pointer + begin, function.first
             if scope is not None:
                 last = Scoped(last, scope, function[:2], hart)
             keep(hart, last)

@@ -66,6 +66,7 @@ CASES = (
     ("clone_member_after", findings.MEMBER, "store of 1, 0 bytes after name.text (12 bytes)", "set_of_clone"),
     ("beside_a_lost_block", findings.HEAP, "store of 1, 0 bytes after a block of 8 bytes", "set"),
     ("member_pointer_after", findings.MEMBER, "store of 1, 0 bytes after name.text (12 bytes)", "set"),
+    ("stack_after_constant", findings.STACK, "store of 1, 0 bytes after four of stack_after_constant (4 bytes)", "set_fifth"),
 )
 PLAIN = "after_scope",                          # cases of the program that is compiled without optimization
 NUMBERS = {name: at for at, (name, *_) in enumerate(CASES)}

@@ -148,6 +148,19 @@ NOINLINE static void stack_after(unsigned bad)
     sink = get(words, sink & 3);
 }
 
+/* By a constant that is past the variable's end, as compilers reach others from it, but not from another function. */
+NOINLINE static void set_fifth(char *text)
+{
+    text[4] = 1;
+}
+
+NOINLINE static void stack_after_constant(unsigned bad)
+{
+    char five[5], four[4];
+    set_fifth(bad ? four : five);
+    sink = (unsigned)five ^ (unsigned)four;
+}
+
 static char *kept_place;
 
 NOINLINE static void keep_place(unsigned bad)
@@ -442,7 +455,7 @@ static void (*const cases[])(unsigned) = {
     unwritten_local, unwritten_copied, unwritten_out, leak, overlapping, lends, freed_nowhere,
     unwritten_size, asked, array_of_length, after_scope,
     after_unknown, freed_unknown, after_return_unknown, unwritten_bits, moved, local_member_after, clone_member_after,
-    beside_a_lost_block, member_pointer_after};
+    beside_a_lost_block, member_pointer_after, stack_after_constant};
 
 static void work(int hart)
 {
