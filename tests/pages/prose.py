@@ -29,6 +29,7 @@ PAGES = {
     "docs/AT.md": 900,
     "docs/COMMANDS.md": 5200,
     "docs/DECISIONS.md": float("inf"),  # no decision has to go because another one comes
+    "docs/FIRST_HOUR.md": 500,
     "docs/FORMAT.md": 3700,
     "docs/GDB.md": 1500,
     "docs/GUIDE.md": 7000,
