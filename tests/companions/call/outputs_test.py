@@ -142,7 +142,7 @@ class InterruptTest(case.Case):
                 if process.poll() is None:
                     os.killpg(process.pid, signal.SIGINT)       # as a terminal does, to all of them
                 _, err = process.communicate(timeout=BOUND)
-                self.assertEqual(err, b"", (words, delay))
+                self.assertEqual(common.without_lack(err.decode()), "", (words, delay))
                 self.assertIn(process.returncode, (0, 130), (words, delay))
                 seen.append(process.returncode)
         self.assertGreater(seen.count(130), len(seen) // 2)

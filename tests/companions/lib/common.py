@@ -143,6 +143,10 @@ def companion(*words, given=b"", environment=None, bound=None, is_whole=False):
     done = subprocess.run([sys.executable, COMPANION] + list(words), input=given, stdout=subprocess.PIPE, stderr=subprocess.PIPE,
                           env=dict(os.environ, **(environment or {})), timeout=bound)
     err = done.stderr.decode("utf-8", "replace")
+    return done.returncode, done.stdout.decode("utf-8", "replace"), err if is_whole else without_lack(err)
+
+
+def without_lack(err):
+    """What a companion said, but for what a program lacks for names and lines."""
     lack = naming.NO_NAMES + "\n", naming.NO_LINES + "\n"
-    said = [line for line in err.splitlines(True) if is_whole or not line.endswith(lack)]
-    return done.returncode, done.stdout.decode("utf-8", "replace"), "".join(said)
+    return "".join(line for line in err.splitlines(True) if not line.endswith(lack))
