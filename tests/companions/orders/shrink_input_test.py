@@ -8,6 +8,7 @@ import subprocess
 import sys
 import time
 from types import SimpleNamespace
+from typing import Any
 
 import case
 import common
@@ -169,6 +170,7 @@ class EndsTest(case.Case):
         self.assertEqual(len({wild, null, code, ends.rough(ended(10, "StoreOutside", 4096))}), 4)
 
     def test_a_pass_ends_that_gains_nothing(self):
+        never: Any
         halves = sum(-(-500 // size) for size in (250, 125, 62, 31, 15, 7, 6, 5, 4, 3, 2, 1))
         for size, most in ((500, halves), (6000, 2000)):
             never = Never()
