@@ -21,7 +21,8 @@ line_pages=(docs/{GUIDE,WHY,SHRINK,VIEW,GDB,PYTHON,AT,RUN,MEMORY}.md)
 # Runs words in the root, as a new user has them, at the top of a checkout.
 inside() { # WORD..
     unshare --mount --pid --fork chroot "$work/root" /usr/bin/env -i HOME=/root LANG=C.UTF-8 PATH=/usr/sbin:/usr/bin:/sbin:/bin DEBIAN_FRONTEND=noninteractive \
-        /bin/bash -c 'mount -t proc proc /proc && mkdir -p /dev/shm && cd /zelkuma && exec "$@"' bash "$@" </dev/null
+        /bin/bash -c 'mount -t proc proc /proc && mkdir -p /dev/shm /dev/pts && mount -t devpts -o newinstance,ptmxmode=0666 devpts /dev/pts &&
+            ln -sf pts/ptmx /dev/ptmx && ln -sfn /proc/self/fd /dev/fd && cd /zelkuma && exec "$@"' bash "$@" </dev/null
 }
 
 # Tries that words end with a status, and print these texts.

@@ -15,7 +15,7 @@ types() { # LINE WORD..
     printf 'GOT%s\n' "$(printf '<%s>' "$@")" >>"$work/wanted"
 }
 
-types 'zelkuma rec\tx' record x
+types 'zelkuma reco\tx' record x
 types 'zelkuma ver\tx' verx
 types 'zelkuma slice mylo\tpro\t7 8 9' slice mylog program.elf 7 8 9
 types 'zelkuma list with\t' list 'with space'
