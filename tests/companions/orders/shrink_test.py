@@ -170,7 +170,7 @@ class ShrinkTest(case.Case):
         """It is said before a run is made."""
         names = self.elf("hand_over"), common.path("none.log"), common.path("none.book")
         for said, own, words in (
-                ("--shrink needs one run with a fault or a hang", ["--until", "0"], ["--harts", "2"]),
+                ("--shrink needs one run with a fault, a hang or an exit code", ["--until", "0"], ["--harts", "2"]),
                 ("--shrink needs BOOK, and with --lean there is none", [], ["--harts", "2", "--lean"]),
                 ("one hart has one order, so --shrink has nothing to shrink", [], []),
                 ("one hart has one order, so --shrink has nothing to shrink", [], ["--harts", "0x1"])):
