@@ -68,6 +68,7 @@ FORM = "recheck LOG ELF BOOK NEW | ORDER NEW | FOLDER --elfs DIR [--tries N] [--
     "[--old-names ELF] [--source DIR] [--order FILE] [--save NAME] [--junit FILE] [--json]"
 VALUES = "--tries --input --output --names --old-names --source --order --save --elfs --junit".split()
 OF_LOG = "--input", "--output", "--old-names", "--order"
+OF_ONE = *OF_LOG, "--names", "--save"
 MOST_ORDERS = 1000          # of a folder
 IN_LOG, IN_FILE = 4, 2      # names
 
@@ -220,6 +221,9 @@ def main(words: List[str]) -> int:
     wanted = 1 if "--elfs" in given else IN_LOG if any(option in given for option in OF_LOG) else len(names)
     if len(names) != wanted or wanted not in (IN_LOG, IN_FILE, 1) or (wanted == 1 and "--elfs" not in given):
         raise CompanionError(f"{len(names)} names are given; the words are: {FORM}", REFUSED)
+    alone = [option for option in OF_ONE if option in given]
+    if wanted == 1 and alone:
+        raise CompanionError(f"{alone[0]} is for one order, and can't be given with --elfs", REFUSED)
     tries = whole(given.get("--tries", str(TRIES)), 0, MOST_TRIES, "--tries")
     junit = target(given["--junit"], JUNIT, names) if "--junit" in given else None
     with Scratch(MEMORY_FOLDER if os.access(MEMORY_FOLDER, os.W_OK) else "") as folder, Quick(folder) as quick:

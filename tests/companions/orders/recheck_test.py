@@ -245,6 +245,7 @@ class RecheckTest(case.Case):
                 (4, "nowhere.order", [common.path("nowhere.order"), elf]), (2, "is no order of harts", [elf, elf]),
                 (6, "is no 32-bit", [hand(), hand()]), (4, "has 0 order files", [common.path("empty/"), "--elfs", "x"]),
                 (2, "--tries has to be a number", [hand(), elf, "--tries", "x"]), (2, "ended well", [*well, elf]),
+                (2, "--save is for one order", [common.path("empty/"), "--elfs", "x", "--save", "y"]),
                 (2, "would be lost", [hand(), elf, "--junit", self.elf("heap")]), (3, "there is no folder", [hand(), elf, "--save", "/nowhere/x"])):
             with self.subTest(said):
                 self.assertIn(said, self.refuses(status, "recheck", *words))
