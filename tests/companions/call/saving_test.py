@@ -8,7 +8,7 @@ import subprocess
 import sys
 
 import cases
-from common import COMPANION, EXAMPLES, companion, content, written
+from common import COMPANION, EXAMPLES, companion, content, without_lack, written
 
 HAND_OVER = os.path.join(EXAMPLES, "hand_over.elf")
 HARTS = "--harts", "2"
@@ -255,7 +255,7 @@ def case_a_full_disk_loses_nothing(recordings):
             os.link(call.target, other)
         done = subprocess.run([sys.executable, COMPANION, *call.words(call.target)], stdout=subprocess.PIPE, stderr=subprocess.PIPE,
                               preexec_fn=lambda: resource.setrlimit(resource.RLIMIT_FSIZE, (1000, 1000)), check=False)
-        assert done.returncode == 13 and done.stderr.count(b"\n") == 1, done
+        assert done.returncode == 13 and without_lack(done.stderr.decode()).count("\n") == 1, done
         assert content(call.target) == before and not [name for name in os.listdir(call.folder) if name.startswith(".")]
 
 
@@ -263,7 +263,7 @@ def case_a_pipe_takes_a_page(recordings):
     call = Call(recordings, "pipe", "why")
     done = subprocess.run(["bash", "-c", '"$@" >/dev/null | cat', "bash", sys.executable, COMPANION, *call.words("/dev/stderr")],
                           stdout=subprocess.PIPE, stderr=subprocess.PIPE, check=True)
-    assert done.stderr.startswith(PAGE_BEGINS), done
+    assert without_lack(done.stderr.decode()).encode().startswith(PAGE_BEGINS), done
 
 
 Cases = cases.tests_of(globals())
