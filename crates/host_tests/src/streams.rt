@@ -95,6 +95,36 @@ fn what_a_signal_interrupts_is_made_again(rt: HostRuntime) {
     assert_eq!(rt; is_made_again(), [true; 2]);
 }
 
+// A reader whose first read alone fails.
+#[derive(Drop)]
+struct Faulty {
+    reads: u64,
+}
+
+impl Read for Faulty {
+    fn read(&mut self, buffer: &mut [u8]) -> io::Result<usize> {
+        self.reads = self.reads.saturating_add(1);
+        if self.reads == 1 {
+            return Err(io::Error::from(ErrorKind::PermissionDenied));
+        }
+        Ok(buffer.len())
+    }
+}
+
+// Whether a read that fails is told, and the next one is the reader's next.
+fn is_told_once() -> [bool; 2] {
+    let mut source = ReaderSource::new(Faulty { reads: 0 });
+    [
+        source.read(&NoSink, &mut [0, 0]) == Err(Failed),
+        source.read(&NoSink, &mut [0, 0]) == Ok(2),
+    ]
+}
+
+#[test]
+fn a_read_that_fails_is_not_made_again(rt: HostRuntime) {
+    assert_eq!(rt; is_told_once(), [true; 2]);
+}
+
 // Whether a folder can be opened, and not read.
 fn folder_is_not_read<R: Files>(rt: &R, folder: &str) -> bool {
     match fs::open(rt, folder) {

@@ -1,5 +1,5 @@
 //! Each error with its text.
-use bn_base::EndMark;
+use bn_base::{BadSetting, EndMark};
 use hart_replay::ReplayError;
 use log_blocks::{Damage, SalvageError};
 use log_file::FileError;
@@ -124,6 +124,18 @@ const REPLAYS: [(ReplayError, &str); 6] = [
 #[test]
 fn stopped_replays_say_what_is_wrong(rt: HostRuntime) -> Result<(), AllocError> {
     let found = wrong(rt.alloc(), &REPLAYS)?;
+    assert_eq!(rt; found, None);
+    Ok(())
+}
+
+const SETTINGS: [(BadSetting, &str); 1] = [(
+    BadSetting { field: 3, value: 7 },
+    "setting 3 is out of range: 7",
+)];
+
+#[test]
+fn settings_out_of_range_say_which(rt: HostRuntime) -> Result<(), AllocError> {
+    let found = wrong(rt.alloc(), &SETTINGS)?;
     assert_eq!(rt; found, None);
     Ok(())
 }
