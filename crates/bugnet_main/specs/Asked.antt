@@ -1,9 +1,10 @@
 -- Which words have turns that the environment may name.
-use Rattle.std.specs.Prelude.{◌≡◌, ◌≤◌, ◌<◌, ◌⊎◌, ◌++◌, ℕ, false, List, length, codes, Option, Some, None, option_map, Result, Ok, Err, IsSomeAnd}
+use Rattle.std.specs.Prelude.{◌≡◌, ◌≤◌, ◌<◌, ◌⊎◌, ◌++◌, ℕ, false, List, [], length, codes, Option, Some, None, option_map, Result, Ok, Err, IsSomeAnd}
 use Rattle.bn_base.specs.Ranges.{first_bad}
 use Rattle.bn_outside.specs.Counts.{Counts, NoneFell, Rose}
 use Rattle.bn_outside.specs.Files.{Stored}
 use Rattle.bn_outside.specs.StoreCalls.{LoadCall}
+use Rattle.bn_outside.specs.Streams.{Stream}
 use Rattle.bn_outside.specs.declared.schedule.Schedule.{Schedule}
 use Rattle.bn_outside.specs.declared.schedule.Schedule.TheVariants as schedules
 use Rattle.bn_outside.specs.declared.schedule.Manner.{Manner}
@@ -11,7 +12,9 @@ use Rattle.bn_outside.specs.declared.schedule.Manner.TheVariants.{Bursts, Sleepe
 use Rattle.bugnet.specs.Command.Record.{is_clash}
 use Rattle.command_words.specs.Words.{Line, RecordLine, RecordingLine, number_of}
 use Rattle.log_commands.specs.FileCalls.{Note}
-use Rattle.log_commands.specs.Outside.{WithFiles}
+use Rattle.log_commands.specs.Names.{FileNames}
+use Rattle.log_commands.specs.Outside.{ToldRefusal, WithFiles, Wrote}
+use Rattle.log_commands.specs.declared.refusal.Refusal.{Refusal}
 use Rattle.log_commands.specs.declared.status.Status.{Status}
 use Rattle.log_commands.specs.declared.status.Status.TheVariants.{OutOfMemory, WordsRefused}
 use Rattle.log_commands.specs.declared.status.Status.TheVariants as exit
@@ -32,6 +35,11 @@ pub record TakesTurns (r : RecordingLine) : Type 0 where
 abbrev pub AskForTurns : Option Line → Type 0
 AskForTurns (Some (RecordLine r)) = TakesTurns r
 AskForTurns line = ⊥
+
+-- how many harts the recording of words has
+abbrev pub harts_by : Option Line → Option ℕ
+harts_by (Some (RecordLine r)) = Some r.settings.harts
+harts_by line = None
 
 -- the schedule that such turns are, with the bytes of their list; none for threads
 abbrev pub IsFor : Turns → Option Schedule → Type 0
@@ -97,3 +105,21 @@ pub record LoadsList (name : List ℕ) (note : Note) (old new : Stored) (result 
 -- the store got no call, or that one
 abbrev pub LoadsFew : Note → (old new : Stored) → Result Turns Status → Type 0
 LoadsFew note old new result = ((new ≡ old) × NeedNoList result) ⊎ ((name : List ℕ) × LoadsList name note old new result)
+
+-- ---- what is told
+
+-- the file of a list
+abbrev pub list_names : List ℕ → FileNames
+list_names name = record { elf = []; log = []; book = name; input = []; origin = [] }
+
+-- a line was written to err, or a prefix of it and a write failed
+abbrev pub TellsLine : List ℕ → (old new : Stream) → Type 0
+TellsLine line old new = Wrote old.text new.text old.faults new.faults line
+
+-- If there are turns, err is as it was. Else it has the line of why: the variable is refused, memory ran out, or the load of a list was refused
+abbrev pub SaysWhy : (old new : Stream) → Result Turns Status → Type 0
+SaysWhy old new (Ok turns) = new ≡ old
+SaysWhy old new (Err status) =
+    ((status ≡ WordsRefused) × TellsLine (codes "bugnet: ZELKUMA_SCHEDULE refused\n") old new)
+    ⊎ (((status ≡ OutOfMemory) × TellsLine (codes "bugnet: out of memory\n") old new)
+    ⊎ ((name : List ℕ) × (refusal : Refusal) × ToldRefusal (list_names name) refusal (code status) old.text new.text old.faults new.faults))

@@ -1,8 +1,8 @@
 //! Which turns a recording without a seed takes, as the environment names them.
-ghost use Rattle.std.specs.Prelude.{◌≡◌, ◌++◌, ℕ, List, codes, IfOk, IfSome, IsSome, OnSome};
+ghost use Rattle.std.specs.Prelude.{◌≡◌, ◌≢◌, ◌++◌, ℕ, List, codes, Some, Ok, IfOk, IfSome, IsSome, MatchResult, OnSome};
 ghost use Rattle.bugnet.specs.Command.Record.{is_clash};
 ghost use Rattle.command_words.specs.Words.{command_in, number_of, seen_recording};
-ghost use Rattle.bugnet_main.specs.Asked.{AskForTurns, TakesTurns, IsFor, IsUnasked, LoadsList, LoadsFew, IsSaid, drawn_by};
+ghost use Rattle.bugnet_main.specs.Asked.{AskForTurns, TakesTurns, IsFor, IsUnasked, LoadsList, LoadsFew, IsSaid, SaysWhy, TellsLine, drawn_by, harts_by};
 
 use bn_base::Settings;
 use bn_outside::{Manner, Schedule, Sink, Store, send_all};
@@ -45,7 +45,8 @@ impl Turns {
 
 /// Tells on err that memory ran out.
 pub fn tell_out_of_memory<X: Sink>(err: &mut X) -> Status
-    ensures { result ≡ Status.OutOfMemory }
+    ensures status { result ≡ Status.OutOfMemory }
+    ensures line { TellsLine (codes "bugnet: out of memory\n") (X.stream err.old) (X.stream err.new) }
 {
     let _ = send_all(err, b"bugnet: out of memory\n");
     Status::OutOfMemory
@@ -100,7 +101,8 @@ fn clashes(options: &RecordOptions) -> bool
 
 // How many harts a recording has, if it has no seed and isn't refused by its words.
 fn harts_of(options: &RecordOptions) -> Option<u8>
-    ensures { OnSome result (TakesTurns (seen_recording options.now)) }
+    ensures some { OnSome result (TakesTurns (seen_recording options.now)) }
+    ensures all { TakesTurns (seen_recording options.now) → result ≡ Some options.now.settings.harts }
 {
     if options.seed.is_some() || clashes(options) {
         return None;
@@ -113,7 +115,8 @@ fn harts_of(options: &RecordOptions) -> Option<u8>
 
 // The same of words: none if they ask for anything else.
 fn harts_in(alloc: Global, words: &[String]) -> Result<Option<u8>, WordsError>
-    ensures { IfOk result (λ harts. OnSome harts (AskForTurns (command_in words.now))) }
+    ensures some { IfOk result (λ harts. OnSome harts (AskForTurns (command_in words.now))) }
+    ensures all { IfOk result (λ harts. AskForTurns (command_in words.now) → harts ≡ harts_by (command_in words.now)) }
 {
     match read_words(alloc, words) {
         Ok(Command::Record(options)) => Ok(harts_of(&options)),
@@ -133,6 +136,7 @@ fn listed<S: Store, X: Sink>(
     ensures still { (S.stored files.new).files ≡ (S.stored files.old).files }
     ensures saves { (S.stored files.new).saves ≡ (S.stored files.old).saves }
     ensures list { LoadsList name.now S.note (S.stored files.old) (S.stored files.new) result }
+    ensures told { SaysWhy (X.stream err.old) (X.stream err.new) result }
 {
     let names = Names {
         elf: "",
@@ -149,7 +153,8 @@ fn listed<S: Store, X: Sink>(
 
 // Tells on err that the variable isn't understood.
 fn tell_refused<X: Sink>(err: &mut X) -> Status
-    ensures { result ≡ Status.WordsRefused }
+    ensures status { result ≡ Status.WordsRefused }
+    ensures line { TellsLine (codes "bugnet: ZELKUMA_SCHEDULE refused\n") (X.stream err.old) (X.stream err.new) }
 {
     let _ = send_all(err, b"bugnet: ZELKUMA_SCHEDULE refused\n");
     Status::WordsRefused
@@ -166,6 +171,11 @@ fn named<S: Store, X: Sink>(
     ensures still { (S.stored files.new).files ≡ (S.stored files.old).files }
     ensures saves { (S.stored files.new).saves ≡ (S.stored files.old).saves }
     ensures loads { LoadsFew S.note (S.stored files.old) (S.stored files.new) result }
+    ensures told { SaysWhy (X.stream err.old) (X.stream err.new) result }
+    ensures lone { harts ≡ 1 → (files.new ≡ files.old) × MatchResult result (λ turns. turns ≡ Turns.OfThreads) (λ status. status ≡ Status.WordsRefused) }
+    ensures bursts { (digits : List ℕ) (n : ℕ) → text.now ≡ codes "bursts:" ++ digits → number_of digits ≡ Some n → harts ≢ 1 → result ≡ Ok (Turns.Drawn Manner.Bursts n) }
+    ensures sleeper { (digits : List ℕ) (n : ℕ) → text.now ≡ codes "sleeper:" ++ digits → number_of digits ≡ Some n → harts ≢ 1 → result ≡ Ok (Turns.Drawn Manner.Sleeper n) }
+    ensures book { (name : List ℕ) → text.now ≡ codes "book:" ++ name → harts ≢ 1 → LoadsList name S.note (S.stored files.old) (S.stored files.new) result }
 {
     let Some(said) = said_by(text) else {
         return Err(tell_refused(err));
@@ -190,6 +200,7 @@ fn turns_for<R: Env + AllocGlobal, S: Store, X: Sink>(
     ensures still { (S.stored files.new).files ≡ (S.stored files.old).files }
     ensures saves { (S.stored files.new).saves ≡ (S.stored files.old).saves }
     ensures loads { LoadsFew S.note (S.stored files.old) (S.stored files.new) result }
+    ensures told { SaysWhy (X.stream err.old) (X.stream err.new) result }
 {
     match env::var(rt, "ZELKUMA_SCHEDULE") {
         Ok(text) => {
@@ -220,6 +231,7 @@ pub fn turns_of<R: Env + AllocGlobal, S: Store, X: Sink>(
     ensures still { (S.stored files.new).files ≡ (S.stored files.old).files }
     ensures saves { (S.stored files.new).saves ≡ (S.stored files.old).saves }
     ensures loads { LoadsFew S.note (S.stored files.old) (S.stored files.new) result }
+    ensures told { SaysWhy (X.stream err.old) (X.stream err.new) result }
 {
     match harts_in(alloc, words) {
         Ok(Some(harts)) => turns_for(rt, alloc, harts, files, err),
