@@ -6,6 +6,9 @@ tests/program/threads.py PROGRAM
 No clause says who takes a turn. If a worker stops early, seed 0 takes the turns that are left, and
 LOG and BOOK are those of a run all the same. So this looks at lists of turns, and at the threads of
 a process. None of it is timed: a run that has the fault looked for ends at its limit.
+
+It was seen to fail for a worker that stops early, for one that takes every other turn only, for one
+that waits for another's end, and if the caller's thread takes all turns.
 """
 import os
 import struct
