@@ -194,13 +194,17 @@ class Turns:
         for hart, lines in self.lines.items():
             yield [tuple(ACCESS.findall(line)) for line in lines[:self.turns[:end].count(bytes([hart]))] if not is_end(line)]
 
+    def taken(self, hart: int) -> int:
+        """How many turns a hart took, but for those that ended with an interval: the new run has other intervals."""
+        return sum(1 for line in self.lines[hart] if not is_end(line))
+
     def ended(self) -> Ended:
         """The fault, or the hart that came to the limit, or neither."""
         for hart, end in sorted(self.log.ends.items()):
             if is_fault(end.reason):
-                return Ended(end.reason, hart, pc_of(self.lines[hart][-1]), len(self.lines[hart]))
+                return Ended(end.reason, hart, pc_of(self.lines[hart][-1]), self.taken(hart))
         limited = [hart for hart, end in sorted(self.log.ends.items()) if end.reason == "limit"]
-        return Ended("limit", limited[0], 0, len(self.lines[limited[0]])) if limited else Ended("", 0, 0, 0)
+        return Ended("limit", limited[0], 0, self.taken(limited[0])) if limited else Ended("", 0, 0, 0)
 
 
 def compare(old: Turns, new: Turns, at: At) -> Compared:

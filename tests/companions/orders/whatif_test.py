@@ -22,8 +22,8 @@ END = addi(A7, 0, 93), addi(A0, T1, 0), ECALL
 
 
 def lines_of(turns):
-    """What each turn of each hart accessed."""
-    return {hart: [whatif.ACCESS.findall(line) for line in lines] for hart, lines in turns.lines.items()}
+    """What each turn of each hart accessed, but for turns that end with an interval."""
+    return {hart: [whatif.ACCESS.findall(line) for line in lines if not whatif.is_end(line)] for hart, lines in turns.lines.items()}
 
 
 class WhatIfTest(case.Case):
@@ -114,6 +114,15 @@ class WhatIfTest(case.Case):
         status, said, err = common.companion("whatif", log, elf, book, f"{row.hart}:{row.ic}", "--set", "1")
         self.assertEqual((status, err), (16, ""))
         self.assertIn("UNSOUND: the runs differ before it", said)
+
+    def test_intervals_are_no_difference(self):
+        """They end turns in LOG, and not in the new run."""
+        loop = [addi(T0, 0, 50), *[addi(T1, T1, 3)] * 20, addi(T0, T0, -1), branch_unless_equal(T0, 0, -84), load(T1, 0)]
+        log, elf, book = self.small(loop, "--interval", "7")
+        row = [row for row in rows_of(log, elf) if row.pc == pc_of(4)][20]
+        found = self.told(log, elf, book, f"{row.hart}:{row.ic}", "--set", f"{row.result:08x}", "--names", elf)
+        self.assertTrue(found["is_sound"])
+        self.assertEqual((found["was"], found["was"]["turns"]), (found["now"], 1))
 
     def test_one_free_register(self):
         """The count is taken off and added again; the code's other registers are all named."""
