@@ -5,6 +5,7 @@ import os
 from collections import Counter
 
 from ..recording.addresses import code_of
+from ..recording.calls import RESTORES
 from ..recording.elf import FUNCTION
 from .flow import PCS
 from .reading import Asked
@@ -12,7 +13,7 @@ from .reading import Asked
 
 def lcov(asked: Asked) -> str:
     """A line was done as often as the address of it that was done most, and a function as often as it was called: its first row can be
-    that of a loop, too."""
+    that of a loop, too. The library's end of functions isn't called, but a part of each."""
     done: Counter[bytes] = Counter()
     calls = Counter(each.registers[0] for each in asked.log.first_intervals().values() if each.end > each.start)
     stacks = asked.stacks()
@@ -32,8 +33,9 @@ def lcov(asked: Asked) -> str:
     for symbol in asked.named.functions:
         frames = asked.places.frames(symbol.address)
         if symbol.kind == FUNCTION and frames and frames[-1].line:
+            of_function = times if symbol.name.startswith(RESTORES) else calls
             functions.setdefault(frames[-1].path, []).extend([
-                f"FN:{frames[-1].line},{symbol.name}", f"FNDA:{calls[symbol.address]},{symbol.name}"])
+                f"FN:{frames[-1].line},{symbol.name}", f"FNDA:{of_function.get(symbol.address, 0)},{symbol.name}"])
     said = ["TN:zelkuma"]
     for path, counts in sorted(lines.items()):
         said += [f"SF:{source_of(asked, path)}", *functions.get(path, [])]

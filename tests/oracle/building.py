@@ -20,7 +20,7 @@ GCC, STRIP = "riscv64-unknown-elf-gcc", "riscv64-unknown-elf-strip"
 FLAGS = ["-march=rv32ima", "-mabi=ilp32", "-ffreestanding", "-fno-pic", "-mstrict-align", "-w", "-nostartfiles", "-nodefaultlibs", "-static",
          "-T", os.path.join(HERE, "lib", "program.ld"), "-z", "max-page-size=4096", "-Wl,--build-id=none"]
 OPTIMISED = ("-O0", "-O1", "-O2", "-O3", "-Os", "-Og")
-HEAP = os.path.join(HERE, "lib", "heap.c")      # an allocator
+HEAP = os.path.join(HERE, "lib", "allocator.c")      # an allocator
 INPUT = b"abx abacus: a text that is read\n" * 40
 
 

@@ -97,6 +97,7 @@ CASES = [
     Case("start", ["-O2", G], [], calls("main", "raw_sum", "sized_sum", "through", "seven", where=[("main", "harts", "==", "1")])),
     Case("decimal", ["-O2", G], [], calls("much", where=[("much", "result", "==", "72149959")])),
     Case("saved", ["-Os", G, "-msave-restore"], [], restores),
+    Case("saved-export", ["-Os", G, "-msave-restore"], [], all_of(ask_export)),
     Case("loops", ["-Os", G], [], all_of(ask_export)),
     Case("gcd", ["-Os", G], [], why()),
     Case("texts", ["-O1", G], [], calls("touch", "weigh", "change"), first=b"read and more"),

@@ -7,6 +7,7 @@ from typing import Any, Dict, List, Tuple
 
 gdb: Any = importlib.import_module("gdb")     # only there inside of gdb
 MOST_LEAVES = 400           # of a variable
+MOST_COVERED = 64           # bytes
 
 
 def kind_of(found: Any) -> Dict[str, Any]:
@@ -65,11 +66,21 @@ def registers_at(address: int) -> Dict[str, str]:
     return found
 
 
+def block_of(name: str, address: int) -> Any:
+    """The block of a function. What is inlined at its first row has a block of its own. Assembly from which the linker took code is
+    longer in DWARF than it is, and covers the first rows of what comes behind it."""
+    for at in range(address, address + MOST_COVERED, 4):
+        block = gdb.block_for_pc(at)
+        while block is not None and (block.function is None or block.function.name != name.split(".")[0]):
+            block = block.superblock
+        if block is not None and int(block.start) == address:
+            return block
+    return None
+
+
 def function(name: str, address: int) -> Dict[str, Any]:
-    block = gdb.block_for_pc(address)
-    while block is not None and (block.function is None or block.function.name != name.split(".")[0]):
-        block = block.superblock                # (what is inlined at its first row has a block of its own)
-    if block is None or int(block.start) != address or block.function.symtab.filename.endswith((".S", ".s")):
+    block = block_of(name, address)
+    if block is None or block.function.symtab.filename.endswith((".S", ".s")):
         return {}                               # (assembly has no types, whatever DWARF leaves out of it)
     held = registers_at(address)
     parameters = [[each.name, kind_of(each.type), held.get(each.name, "")] for each in block if each.is_argument]
