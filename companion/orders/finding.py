@@ -4,6 +4,7 @@ from __future__ import annotations
 import difflib
 from typing import Callable, Iterator, List, NamedTuple, Optional, Tuple
 
+from ..call.text import counted
 from .marks import ATOMIC, NO_SYMBOL, STORE, Mark, Point, Points, count_of, on_line
 
 ALIKE = 0.6                 # lines whose texts are so near are taken for one that was changed
@@ -114,8 +115,11 @@ def missing(points: Points, mark: Mark) -> str:
     wanted = mark.point
     times = max(on_line(points, wanted),
                 count_of(points, lambda one: one.is_access_of(wanted) and one.function == wanted.function))
+    if not times and wanted.symbol != NO_SYMBOL:        # `find` takes these too
+        others = other_accesses(wanted)
+        times = count_of(points, lambda one: one.access in others and one.symbol == wanted.symbol and one.is_line_of(wanted))
     if times:
-        return f"hart {mark.hart} does it {times} times, not {mark.nth}"
+        return f"hart {mark.hart} does it {counted(times, 'time')}, not {mark.nth}"
     met = [one for one in points if one and one.function == wanted.function]
     if not met:
         return f"hart {mark.hart} doesn't come to {wanted.function}"

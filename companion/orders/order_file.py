@@ -26,6 +26,7 @@ DEFAULTS = {"--format": "2", "--harts": "1", "--interval": "100000", "--limit": 
             "--log-size": "1048576", "--memory": "1048576", "--sets": "64", "--ways": "4", "--line": "8"}
 LARGEST, MOST_MARKS = 1 << 20, 1000         # bytes of a file, and switches in it
 LONGEST_TEXT, MOST_INPUT = 4096, 1 << 24    # bytes of an input that stands in the file; that record takes
+LARGEST_BYTE = 255
 PART = 64                                   # bytes of an input in a line
 BARE = r'[^\s"|#<\\]+'
 WORD = rf'(?:"(?:[^"\\]|\\.)*"|{BARE})'
@@ -183,7 +184,7 @@ class Reading:
         settings: Dict[str, str] = {}
         for each in found["rest"].split():
             option, equals, value = each.partition("=")
-            if option not in NUMBERS or not equals or not decimal(value).isdigit():
+            if option not in NUMBERS or not equals or not re.fullmatch("[0-9]+", decimal(value)):
                 self.refuse(f"{each} is no setting of record with a number, as --harts=4")
             self.once(option in settings, option)
             settings[option] = decimal(value)
@@ -233,6 +234,8 @@ class Reading:
         self.end(Ended(EXIT, value=int(found["value"])))
 
     def output(self, found: Dict[str, str]) -> None:
+        if int(found["value"]) > LARGEST_BYTE:
+            self.refuse(f"a byte is 0 to {LARGEST_BYTE}")
         self.end(Ended(OUTPUT, place=int(found["place"]), value=int(found["value"])))
 
     def power(self, found: Dict[str, str]) -> None:

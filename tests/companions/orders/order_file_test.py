@@ -93,10 +93,11 @@ class OrderFileTest(case.Case):
                            ("an escape is none of", r'input "\x4"'), ("no more orders", "power 3 of 2"),
                            ("nowhere.in: No such file", "input-file nowhere.in"),
                            ("../in is no file beside this one", "input-file ../in"), ("/in is no file beside this one", "input-file /in"),
-                           ("no line of an order", "hart 0 until load a in b #9999999999")):
+                           ("no line of an order", "hart 0 until load a in b #9999999999"), ("a byte is 0 to 255", "end output 3 256")):
             with self.subTest(line):
                 self.refused_line(said, line)
         for said, line in (("no setting of record", "set --harts=two"), ("no setting of record", "set --seed=1"),
+                           ("no setting of record", "set --harts=\u0664"),
                            ("no setting of record", "set harts=2"), ("--harts is 1 to 16", "set --harts=17"),
                            ("says --limit twice", "set --limit=1 --limit=2")):
             with self.subTest(line):

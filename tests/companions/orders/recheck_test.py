@@ -206,6 +206,9 @@ class RecheckTest(case.Case):
         told = self.verdict(24, "UNSURE", order, self.elf("filters"), "--tries", "2")
         self.assertEqual(told["switches"][1]["how"], "gone")
         self.assertIn("hart 3 doesn't come to gone", told["switches"][1]["said"])
+        order = hand(HAND.replace("ready in main", "ready in main #9"), "ninth.order")
+        told = self.verdict(10, "STILL CRASHES", order, self.elf("filters"), "--tries", "2")
+        self.assertIn("hart 0 does it 1 time, not 9", told["switches"][0]["said"])
 
     def test_a_folder_and_its_report(self):
         self.needs_addr2line()
