@@ -20,6 +20,8 @@ NAMES = re.compile(r"(?<!struct )(?<!union )(?<!enum )(?<![\w.>$])[A-Za-z_]\w*|\
 LETTER = re.compile(r"'(?:\\.|[^'\\])'")
 OPERATION = re.compile(r"^ +(\d+) +(\w+)(?: (-?\d+))?$", re.M)
 TYPE_NAME = re.compile(r"[\w \t*&:<>,()\[\]]+")        # gdb evaluates nothing of such a text
+BEFORE_NAME = re.compile(r"[^(\[]*(?:\(\*+)*")         # what of a type's text stands before a name, if one had this type
+ADDRESS_OF = re.compile(r"&[\s(]*([A-Za-z_]\w*)(?![\w\s]*[.\[]|\s*->)")
 EMPTY = "zelkuma_"
 
 
@@ -38,7 +40,8 @@ class Types:
         if plain.code in PLAIN:
             said.update(kind=PLAIN[plain.code], signed=plain.code == gdb.TYPE_CODE_INT and is_signed(plain))
         elif plain.code == gdb.TYPE_CODE_ENUM:
-            said.update(kind="enum", names={str(field.enumval): field.name for field in plain.fields()[:MOST_PARTS]})
+            names = {str(field.enumval): field.name for field in plain.fields()[:MOST_PARTS]}
+            said.update(kind="enum", names=names, signed=any(value.startswith("-") for value in names))
         elif plain.code == gdb.TYPE_CODE_ARRAY:
             low, high = plain.range()
             said.update(kind="array", count=max(0, high - low + 1), first=low, of=self.told(plain.target(), depth + 1))
@@ -142,6 +145,7 @@ def line(spec: str, expressions: list[str]) -> dict[str, Any]:
 def compiled(spec: str, places: list[int], expression: str) -> dict[str, Any]:
     """The type of an expression, and its bytecode at each place. The value of what is `whole` isn't given, but its address."""
     try:
+        check_functions(places[0], expression)
         found = type_at(places[0], expression)
         plain = found.strip_typedefs()
         is_whole = plain.code in WHOLE
@@ -151,6 +155,14 @@ def compiled(spec: str, places: list[int], expression: str) -> dict[str, Any]:
                 "text": letters is not None and letters.code in (gdb.TYPE_CODE_INT, gdb.TYPE_CODE_CHAR) and letters.sizeof == 1}
     except (gdb.error, RuntimeError, ValueError, KeyError) as error:
         return {"error": str(error)}
+
+
+def check_functions(place: int, expression: str) -> None:
+    """Refuses the address of a function, for which gdb compiles 0."""
+    here = variables_at(place)
+    for name in ADDRESS_OF.findall(expression):
+        if name not in here and gdb.parse_and_eval(name).type.code == gdb.TYPE_CODE_FUNC:
+            raise ValueError(f"gdb doesn't compile &{name}")
 
 
 def bytecode(spec: str, expression: str) -> Iterator[tuple[int, list[tuple[int, str, int]]]]:
@@ -175,8 +187,13 @@ def type_at(place: int, expression: str) -> Any:
     said = gdb.execute(f"whatis {NAMES.sub(empty, expression)}", to_string=True).strip().partition(" = ")[2]
     if not TYPE_NAME.fullmatch(said):           # an ELF file can call a type anything
         raise ValueError(f"its type is {said}")
-    name, bracket, rest = said.partition("[")   # gdb tells a type as text alone
-    return gdb.parse_and_eval(f"({name} (*){bracket}{rest}) 0" if bracket else f"({said} *) 0").type.target()
+    return gdb.parse_and_eval(f"({pointer_to(said)}) 0").type.target()      # gdb tells a type as text alone
+
+
+def pointer_to(said: str) -> str:
+    """The text of a pointer to a type: C writes its star in the place of a name, as in `int (*)[4]`."""
+    at = BEFORE_NAME.match(said).end()          # type: ignore[union-attr]
+    return said[:at] + ("(*)" if said[at:at + 1] in ("[", "(") else "*") + said[at:]
 
 
 def variables_at(place: int) -> dict[str, Any]:

@@ -1,9 +1,11 @@
 """zelkuma at: each value that gdb's dprintf tells over the bridge is told alike, and what can't be told is said."""
 import json
+import os
 import re
 import shutil
 import subprocess
 import sys
+import tempfile
 import unittest
 
 import case
@@ -12,8 +14,11 @@ from recordings import A0, A1, A2, A7, DATA, ECALL, addi, elf_of, load, lui, pc_
 
 from companion.questions import at
 from companion.questions.bytecode import Unknown, evaluate
+from companion.questions.debugger import told_by_gdb
 from companion.questions.expressions import Compiled, Expression
 from companion.questions.reading import asked_of, read
+from companion.questions.types import Leaf, value_text
+from companion.recording.elf import Elf
 
 GDB = "gdb-multiarch"
 NO_GDB = {"ZELKUMA_GDB": "/nowhere/gdb"}
@@ -80,6 +85,27 @@ class AtTest(case.Case):
         said = self.says("at", log, elf, "heap.c:75", "text", "$a1", "sizeof(struct order)", "--last", "1")
         self.assertIn("AT heap.c:75: 215 passes; the last 1 are told (--last N)\n", said)
         self.assertRegex(said, r"\n  0:62340  text = 00010468 'no substitutes'  \$a1 = \S.* sizeof\(struct order\) = 12\n")
+
+    def test_pointers_to_arrays_and_functions(self):
+        """gdb tells their types as C writes them, and compiles 0 for the address of a function."""
+        log, elf = self.recorded("heap")
+        said = self.says("at", log, elf, "heap.c:75", "&orders", "(int (*)(int))0x103a8", "(int *(*(*)[2])(char))&orders", "&main",
+                         "&(main) == 0", "1 && text", "--last", "1")
+        for words in ("&orders = 00011498 <orders>", "(int (*)(int))0x103a8 = 000103a8 <main+608>", "[2])(char))&orders = 00011498 <orders>",
+                      "&main = <gdb doesn't compile &main>", "&(main) == 0 = <gdb doesn't compile &main>", "1 && text = 1"):
+            self.assertIn(words, said)
+
+    def test_an_enumeration_below_0(self):
+        if not shutil.which("riscv64-unknown-elf-gcc"):
+            self.skipTest("riscv64-unknown-elf-gcc isn't installed")
+        with tempfile.TemporaryDirectory() as folder:
+            source, name = os.path.join(folder, "color.c"), os.path.join(folder, "color")
+            with open(source, "w", encoding="ascii") as file:
+                file.write("enum { RED, GREEN = -5 } color = GREEN;\nint _start(void) { return color; }\n")
+            subprocess.run(["riscv64-unknown-elf-gcc", "-march=rv32ima", "-mabi=ilp32", "-nostdlib", "-static", "-g", "-o", name, source],
+                           check=True)
+            of = told_by_gdb(Elf(name), variable="color")["type"]
+        self.assertEqual(value_text(Leaf("", 0, of), b"\xfb\xff\xff\xff", str), "GREEN (-5)")
 
     def test_json(self):
         log, elf = self.recorded("heap")
