@@ -3,7 +3,7 @@ from __future__ import annotations
 
 from typing import Iterable, NamedTuple, Optional
 
-from ..recording.chunks import STORE, chunks, rows_between, touching_any
+from ..recording.chunks import LOAD, STORE, chunks, rows_between, touching_any
 from ..recording.cut import cut, last_count
 from ..recording.instruction import Instruction
 from ..recording.log import Log
@@ -17,8 +17,9 @@ MOST_WORDS = 8              # are looked for
 CALLS_ROWS, MOST_CALLS, MOST_WITH_CALLS = 20000, 3, 3
 
 
-# In the row of an atomic the value that it loaded stands so many letters before that which it stored, up to ` | store ADDRESS=`.
-LOADED, STORING = 26, 18
+# So many letters before the value that an atomic stored stand `load`, what it loaded, and
+# ` | store ADDRESS=`. A store-conditional loads nothing: its register stands there.
+LOADS, LOADED, STORING = 40, 26, 18
 
 
 class Asked(NamedTuple):
@@ -53,7 +54,8 @@ class Search:
         for at in [found.end() for found in self.pattern.finditer(text)][::-1]:
             if not wanted:
                 break
-            if text[at - LOADED:at - STORING] == text[at:at + 8]:
+            loaded = text[at - LOADED:at - STORING]
+            if text.startswith(LOAD, at - LOADS) and loaded == text[at:at + 8]:
                 continue                        # an atomic that stored what it loaded gave no value
             begin, end = text.rfind(b"\n", 0, at) + 1, text.find(b"\n", at)
             row = text[begin:len(text) if end < 0 else end]

@@ -103,10 +103,12 @@ class HangTest(case.Case):
         return "\n".join(said)
 
     def test_what_stored_before_the_rows_is_looked_for(self):
-        """The word's lowest byte was stored before another one of it. In between, an atomic stored what was there."""
+        """The word's lowest byte was stored before another one of it. In between, an atomic stored what was there. A
+        store-conditional stores 0, and puts 0 into its register as well."""
         names = common.path("flags.log"), common.path("flags.elf")
+        conditional = [addi(T0, 0, 5), store(T0, S0), atomic(LR, T1, S0), atomic(SC, T2, S0, 0)]
         for rows, count in (([store(0, S0)], 1), ([store(0, S0), store(T1, S0, 1, 0)], 1),
-                            ([store(T1, S0), store(0, S0), atomic(SWAP, 0, S0, 0)], 2)):
+                            ([store(T1, S0), store(0, S0), atomic(SWAP, 0, S0, 0)], 2), (conditional, 4)):
             self.flags((), *rows)
             self.assertIn("t1 is 00000000, from 00020000, stored before the rows that were read, by hart 0 at "
                           f"count {count} in ", self.bounded(*names))
