@@ -77,6 +77,9 @@ def guarded(words: list[str]) -> int:
     except MemoryError:
         streams.say("out of memory")
         return NO_MEMORY
+    except ModuleNotFoundError as error:        # as of Debian's python3-minimal
+        streams.say(f"this python3 has no module {error.name}: apt-get install -y python3")
+        return BROKEN
     except ImportError as error:
         streams.say(f"python can't load a module: {error}")
         return BROKEN
@@ -86,9 +89,6 @@ def guarded(words: list[str]) -> int:
     except OSError as error:
         streams.say(f"{error.filename or 'a file'}: {error.strerror or error}")
         return UNREADABLE
-    except ModuleNotFoundError as error:        # as of Debian's python3-minimal
-        streams.say(f"this python3 has no module {error.name}: apt-get install -y python3")
-        return BROKEN
     except Exception as error:                  # the last resort: a line for the user, the traceback on demand
         if os.environ.get("ZELKUMA_TRACEBACK"):
             raise

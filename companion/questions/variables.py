@@ -106,9 +106,13 @@ def of_functions(elf: Elf, name: str) -> str:
 
 
 def not_found(elf: Elf, name: str, among: list[Symbol]) -> str:
-    """That a name isn't there, and which names are near."""
+    """That a name isn't there, and which names are near, or else the first that are there."""
     if not elf.symbols:
         return f"{clean(name)} isn't there: {os.path.basename(elf.name)} is stripped; --names ELF has names"
-    near = difflib.get_close_matches(re.split(r"[.\[+:]", name, maxsplit=1)[0], sorted({item.name for item in among}), NEAR, 0.6)
+    names = sorted({item.name for item in among})
+    near = difflib.get_close_matches(re.split(r"[.\[+:]", name, maxsplit=1)[0], names, NEAR, 0.6)
     said = f"; near it: {', '.join(near)}" if near else ""
+    own = [each for each in names if not each.startswith("_")]
+    if own and not near:
+        said = f"; it has {', '.join(own[:NEAR])}" + " .." * (len(own) > NEAR)
     return f"{os.path.basename(elf.name)} has no {clean(name)}{said}"

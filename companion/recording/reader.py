@@ -139,13 +139,13 @@ class Reader:
             self.go(self.start + place)
         self.access(lines, shapes, here)
 
-    def finish(self, seconds: float) -> None:
+    def finish(self) -> None:
         """All rows are read."""
         rows = self.rows
         rows.harts = {number: hart for number, hart in rows.harts.items() if hart.last}
         rows.last = {number: hart.last for number, hart in rows.harts.items()}
         rows.final = {number: [self.value(self.harts[number], register) for register in range(32)] for number in rows.last}
-        rows.seconds, rows.size = seconds, len(rows.code) - 1
+        rows.size = len(rows.code) - 1
         self.writers.count_pairs()
 
     def harts_of(self, lines: Sequence[bytes]) -> bytes:

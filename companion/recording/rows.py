@@ -64,7 +64,7 @@ class Rows:
     harts    {hart: where its rows are}, of those that have one; last: {hart: its last row}
     final    {hart: its registers at the end}
     fault    or None
-    size     how many rows there are; passed: how many before them weren't kept; seconds: how long it took to read them"""
+    size     how many rows there are; passed: how many before them weren't kept"""
 
     def __init__(self, log: Log) -> None:
         self.log = log
@@ -78,7 +78,7 @@ class Rows:
         self.last: dict[int, int] = {}
         self.final: dict[int, list[int]] = {}
         self.fault: Optional[Fault] = None
-        self.size, self.passed, self.seconds = 0, 0, 0.0
+        self.size = self.passed = 0
 
     def code_of(self, n: int) -> Instruction:
         return self.codes[self.code[n]]

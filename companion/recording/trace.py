@@ -1,7 +1,6 @@
 """The rows of a log, read once: what they do, who wrote what, and how harts were called."""
 from __future__ import annotations
 
-import time
 from typing import NamedTuple, Optional
 
 from .calls import Calls, Entries
@@ -27,7 +26,7 @@ def begin_trace(log: Log, entries: Optional[Entries] = None) -> Trace:
 def read_trace(log: Log, elf_name: str, entries: Optional[Entries] = None, most: int = 0,
                asked: Optional[At] = None) -> Trace:
     """The rows of a log: all, or with `most` about the last so many; of a row that is asked of, the last up to it."""
-    trace, began = begin_trace(log, entries), time.monotonic()
+    trace = begin_trace(log, entries)
     rows, end = log.rows(), b""
     if asked and most and rows > most:
         rows, end = rows_before(log, elf_name, asked), head_of(asked)
@@ -41,7 +40,7 @@ def read_trace(log: Log, elf_name: str, entries: Optional[Entries] = None, most:
         reader.read(text if stop < 0 else text[:stop])
         if last >= 0:
             break
-    reader.finish(time.monotonic() - began)
+    reader.finish()
     return trace
 
 
@@ -51,7 +50,7 @@ def trace_of(log: Log, text: bytes) -> Trace:
     reader, rows = Reader(*trace), OTHER_LINES.sub(b"", b"\n" + text.rstrip(b"\n"))
     if rows.strip(b"\n"):
         reader.read(rows)
-    reader.finish(0.0)
+    reader.finish()
     return trace
 
 

@@ -200,10 +200,7 @@ def race_part(facts: Analysis) -> Part:
 
 
 def last_lines(facts: Analysis) -> list[str]:
-    rows = facts.rows
-    rate = number(int(rows.size / max(rows.seconds, 0.001)))
-    said = f"{counted(rows.size, 'row')} in {rows.seconds:.1f} s ({rate} a second)"
-    return [said] + unread(facts) + facts.notes + facts.places.trouble()
+    return [f"read: {counted(facts.rows.size, 'row')}"] + unread(facts) + facts.notes + facts.places.trouble()
 
 
 def unread(facts: Analysis) -> list[str]:

@@ -60,7 +60,7 @@ record heap.c LOG2 BOOK2 => 6 it isn't an ELF file: give the linked program
 record x86 LOG2 BOOK2 => 6 it is for another machine: build it with '-march=rv32ima
 record compressed LOG2 BOOK2 => 6 compressed instructions|without c
 record object LOG2 BOOK2 => 6 it isn't linked|link it
-record high LOG2 BOOK2 => 6 larger '--memory'|link it lower
+record high LOG2 BOOK2 => 6 larger '--memory', up to 64M|link it lower
 record short LOG2 BOOK2 => 6 copy it again
 list LOGcut => 7 copy it again|salvage LOG NEW
 list LOG.gz => 7 is compressed: gunzip it first
@@ -89,6 +89,7 @@ why LOG heap.elf --output 1:0 => 14 `zelkuma output` lists them
 why LOG heap.elf --outptu 1:0 => 2 did you mean --output?
 at LOG heap.elf heap.c:75 => 2 an expression is missing
 history LOG heap.elf orderss => 4 heap.elf has no orderss; near it: orders
+history LOG heap.elf nosuch => 4 heap.elf has no nosuch; it has arena
 calls LOG heap.elf mian => 4 heap.elf has no mian; near it: main
 seeds 1 10 --format 2 heap.elf LOG2 BOOK2 => 2 the options of record stand behind --
 shrink LOG heap.elf BOOK NEW NEWBOOK => 2 there is nothing to shrink

@@ -71,7 +71,7 @@ declare -A kinds=(
 [elf: NotStatic]="it isn't linked, or is shared or position-independent: link it, with '-static -no-pie'"
 [elf: NeedsCompressed]="it has compressed instructions: build it and its libraries with '-march=rv32ima', without c"
 [elf: NeedsE]="it has 16 registers: build it with '-march=rv32ima'"
-[elf: Outside]="a segment is outside of the memory, which begins at 4,096: give a larger '--memory', or link it lower"
+[elf: Outside]="a segment is outside of the memory, which begins at 4,096: give a larger '--memory', up to 64M, or link it lower"
 [elf: SegmentsTouch]="two of its segments share a word: align sections to 4 bytes in the linker script"
 [elf: EntryOutside]="its entry isn't an aligned word of code: say 'ENTRY(_start)' in the linker script"
 [elf: NoSegment]="it has nothing to load: link it with loaded code"
