@@ -13,14 +13,13 @@ from ..call.text import counted, number
 from ..recording.chunks import rows_between
 from ..recording.cut import cut, last_count
 from ..recording.elf import WRITABLE
-from ..recording.instruction import BRANCH, JUMP, NAMES, OP_JALR, Instruction
+from ..recording.followed import FollowedMemory
+from ..recording.instruction import BRANCH, JUMP, OP_JALR, Instruction
 from ..recording.log import At, is_fault, no_row
 from ..recording.memory import Memory
-from .followed import FollowedMemory
+from ..recording.passed import write
 from .reading import Asked
 
-WRITES = re.compile(rb"\| (\w+)=(\w{8})")
-NUMBERS = {name.encode(): at for at, name in enumerate(NAMES)}
 LOWEST = 4096               # no address below is mapped
 MOST_PIECES = 60000         # a file's head counts its parts in 16 bits
 MASK, SIGN = 0xffffffff, 1 << 31
@@ -44,7 +43,7 @@ class Place:
 
     def __init__(self, asked: Asked, row: Optional[At]) -> None:
         self.asked, self.row, self.is_found = asked, row, False
-        self.followed = FollowedMemory(asked)
+        self.followed = FollowedMemory(asked.log, asked.elf, asked.is_whole)
         self.counts = {hart: first.start for hart, first in asked.log.first_intervals().items() if not first.start}
 
     def read(self) -> None:
@@ -103,11 +102,6 @@ def state_of(asked: Asked, hart: int, count: int) -> State:
     write(registers, last)
     stop = log.ends.get(hart)
     return State(hart, [pc, *registers[1:]], stop.reason if stop and stop.count == count else "")
-
-
-def write(registers: list[int], rows: bytes) -> None:
-    for name, value in WRITES.findall(rows):
-        registers[NUMBERS[name]] = int(value, 16)
 
 
 def next_pc(code: Instruction, registers: list[int]) -> int:

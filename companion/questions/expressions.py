@@ -9,10 +9,10 @@ from typing import Any, Dict, List, NamedTuple, Sequence
 from ..call.errors import MISSING, REFUSED, CompanionError
 from ..call.text import clean
 from ..recording.elf import Elf
+from ..recording.followed import FollowedMemory
 from ..recording.instruction import NAMES
 from .bytecode import Code, Unknown, evaluate
 from .debugger import told_by_gdb
-from .followed import FollowedMemory
 from .reading import Asked
 from .registers import Registers
 from .types import Leaf, Type, bounded, leaves, value_text
@@ -90,7 +90,7 @@ class Values:
     """What expressions are at passes, which are asked of in the rows' order."""
 
     def __init__(self, asked: Asked, expressions: Sequence[Expression]) -> None:
-        self.asked, self.memory = asked, FollowedMemory(asked)
+        self.asked, self.memory = asked, FollowedMemory(asked.log, asked.elf, asked.is_whole)
         self.follows = any(each.has_memory() for each in expressions)
         self.window = Window(0)                 # of the rows before the latest chunk the last values are enough
         numbers = {number for each in expressions for _, name, number in each.operations() if name == "reg"}

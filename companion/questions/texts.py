@@ -6,11 +6,10 @@ import itertools
 from collections import deque
 from typing import Deque, Dict, Iterable, NamedTuple
 
-from ..recording.chunks import few_ranges, touching_any
-from ..recording.log import SystemCall
-from ..recording.memory import Bytes, Memory
+from ..recording.chunks import few_ranges
+from ..recording.followed import FollowedMemory
+from ..recording.memory import Bytes
 from .reading import Asked
-from .words import Fills
 
 MOST_TEXT = 40              # letters that are told
 MOST_RANGES = 8             # of addresses: more make the search slow
@@ -30,35 +29,18 @@ class Texts:
         self.wanted: Deque[Pointer] = deque(sorted(set(pointers)))
         self.told: Dict[Pointer, str] = {}
         ranges = few_ranges(((each.address, each.address + MOST_TEXT) for each in self.wanted), MOST_RANGES)
-        self.memory, self.fills, self.touched = Memory(asked.elf, asked.is_whole), Fills(asked.log, 0, 1 << 32), touching_any(ranges)
-        self.coming: Deque[tuple[int, SystemCall]] = deque()
+        self.followed = FollowedMemory(asked.log, asked.elf, asked.is_whole, ranges)
         self.base = 0                           # the place of the latest chunk
 
     def take(self, text: bytes) -> None:
-        self.coming, at = deque(self.fills.within(text)), 0
+        self.followed.take(text)
         while self.wanted and self.wanted[0].place < self.base + len(text):
             pointer = self.wanted.popleft()
-            self.follow(text, at, pointer.place - self.base)
-            at = pointer.place - self.base
-            said = text_in(self.memory.read(pointer.address, MOST_TEXT))
+            self.followed.go_to(pointer.place - self.base)
+            said = text_in(self.followed.memory.read(pointer.address, MOST_TEXT))
             if said:
                 self.told[pointer] = said
-        self.follow(text, at, len(text))
         self.base += len(text)
-
-    def follow(self, text: bytes, begin: int, end: int) -> None:
-        """The rows between two places of a chunk, and the `read` calls among them."""
-        while self.coming and self.coming[0][0] <= end:
-            at, fill = self.coming.popleft()
-            self.tell(text, begin, at)
-            self.memory.fill(fill.address, fill.size)
-            begin = at
-        self.tell(text, begin, end)
-
-    def tell(self, text: bytes, begin: int, end: int) -> None:
-        for found in self.touched.finditer(text, begin, end):
-            at = found.end()
-            self.memory.known[int(text[at - 9:at - 1], 16) & ~3] = int(text[at:at + 8], 16)
 
 
 def text_in(data: Bytes) -> str:

@@ -1,12 +1,12 @@
 """What rows and `read` calls did to the words that a variable is in."""
 from __future__ import annotations
 
-from collections import deque
-from typing import Deque, Iterator, NamedTuple, Optional
+from typing import Iterator, NamedTuple, Optional
 
 from ..recording.chunks import LOAD, STORE, touching
-from ..recording.cut import last_count, operation_of
-from ..recording.log import READ_CALL, Log, SystemCall
+from ..recording.cut import operation_of
+from ..recording.followed import Fills
+from ..recording.log import SystemCall
 from ..recording.memory import Bytes, Memory, bytes_of, words_of
 from .reading import Asked
 from .variables import Variable
@@ -30,31 +30,6 @@ class Change(NamedTuple):
         begin = address - self.word + 4
         for words in (self.before, (self.before[0], self.after, self.before[2])):
             yield bytes_of(words)[begin:begin + size] if 0 <= begin <= 12 - size else [None] * size
-
-
-class Fills:
-    """The `read` calls that fill some of the bytes from an address up to another.
-
-    left    {hart: those that are still to come}"""
-
-    def __init__(self, log: Log, first: int, end: int) -> None:
-        self.left: dict[int, Deque[SystemCall]] = {}
-        for call in log.system_calls():
-            if call.kind == READ_CALL and call.size and call.address < end and first < call.address + call.size:
-                self.left.setdefault(call.hart, deque()).append(call)
-
-    def within(self, text: bytes) -> list[tuple[int, SystemCall]]:
-        """Those whose rows are in the next chunk, with the places behind their rows' beginnings."""
-        found = []
-        for hart, fills in self.left.items():
-            count, at = last_count(text, hart), 0
-            while fills and fills[0].count <= count:
-                fill = fills.popleft()
-                at = text.find(b"\n%d %d " % (hart, fill.count), at)
-                if at >= 0:
-                    found.append((at + 1, fill))
-                at = max(at, 0)
-        return sorted(found)
 
 
 class Words:

@@ -147,9 +147,14 @@ def touching(first: int, end: int, *kinds: bytes) -> Pattern[bytes]:
 
 def touching_any(ranges: Iterable[tuple[int, int]], *kinds: bytes) -> Pattern[bytes]:
     """The same of several ranges. It begins with a letter that few rows have, so that a search is fast."""
-    words = b"|".join(hexadecimal(first & ~3, (end - 1) | 3) for first, end in ranges)
+    words = words_in(ranges)
     kind = b"|".join(kind[-2:] for kind in kinds or (LOAD, STORE))
     return re.compile(rb"o(?:%s) (?:%s)=" % (kind, words) if words else rb"(?!)")
+
+
+def words_in(ranges: Iterable[tuple[int, int]]) -> bytes:
+    """A pattern of the addresses in words that have a byte of some ranges; nothing if there are none."""
+    return b"|".join(hexadecimal(first & ~3, (end - 1) | 3) for first, end in ranges)
 
 
 def at(first: int, end: int) -> Pattern[bytes]:

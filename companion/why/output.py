@@ -12,13 +12,15 @@ from ..call.options import read_words
 from ..call.text import counted, number
 from ..recording.answers import place_of as code_place, put_answer
 from ..recording.calls import entries_of
-from ..recording.chunks import after, chunks, few_ranges, places, touching_any
+from ..recording.chunks import after, chunks, few_ranges, places
 from ..recording.cut import count_of, hart_at
 from ..recording.elf import Elf
+from ..recording.followed import FollowedMemory
 from ..recording.instruction import A0
-from ..recording.log import READ_CALL, WRITE_CALL, Log, SystemCall
-from ..recording.memory import Memory, quoted
+from ..recording.log import WRITE_CALL, Log, SystemCall
+from ..recording.memory import quoted
 from ..recording.opened import Opened, opened
+from ..recording.passed import Passed
 from ..recording.places import CALLED_FROM, Places
 from ..recording.stacks import Frame, Stacks, call_places
 
@@ -56,13 +58,13 @@ class Write(NamedTuple):
 class Reader:
     """Follows the rows of `joint`: the words that are written, and a0."""
 
-    def __init__(self, log: Log, elf: Elf, stacks: Stacks, numbers: dict[SystemCall, int]) -> None:
-        """`numbers` are those of the writes of the whole log."""
-        self.memory, self.stacks, self.numbers = Memory(elf, not log.dropped), stacks, numbers
-        self.calls = {(call.hart, call.count): call for call in log.system_calls()}
-        self.wanted = sorted(numbers[call] for call in self.calls.values() if call in numbers)
-        self.ranges = few_ranges(((call.address, call.address + call.size) for call in numbers if call.size), MOST_RANGES)
-        self.touched = touching_any(self.ranges)
+    def __init__(self, log: Log, elf: Elf, stacks: Stacks, numbers: dict[SystemCall, int], passed: Optional[Passed]) -> None:
+        """`numbers` are those of the writes of the whole log; `passed` has taken the rows before those that come, if there are any."""
+        ranges = few_ranges(((call.address, call.address + call.size) for call in numbers if call.size), MOST_RANGES)
+        self.followed = FollowedMemory(log, elf, not log.dropped and not passed, ranges)
+        self.stacks, self.numbers, self.passed = stacks, numbers, passed
+        self.calls = {(call.hart, call.count): call for call in log.system_calls() if call in numbers}
+        self.wanted = sorted(numbers[call] for call in self.calls.values())
         self.a0 = {b"%d" % hart: interval.registers[A0] for hart, interval in log.first_intervals().items()}      # as it was last set
 
     def writes(self, texts: Iterator[bytes]) -> Iterator[Write]:
@@ -70,6 +72,9 @@ class Reader:
         ready: dict[int, Write] = {}
         at = 0
         for text in texts:
+            if self.passed:
+                self.a0 = {b"%d" % hart: values[A0] for hart, values in self.passed.registers().items()}
+                self.passed = None
             self.stacks.take(text)
             for write in self.written(text):
                 ready[write.number] = write
@@ -80,34 +85,25 @@ class Reader:
                 break
 
     def written(self, text: bytes) -> Iterator[Write]:
+        self.followed.take(text)
         at = 0
         for asked in places(text, ASKED):
             begin, end = text.rfind(b"\n", 0, asked) + 1, text.find(b"\n", asked)
             name = hart_at(text, begin)
             call = self.calls.get((int(name), count_of(text[begin:asked])))
             if call:
-                self.follow(text, at, begin)
+                self.follow_a0(text, at, begin)
                 at = begin
-                if call in self.numbers:
-                    row = text[begin:end if end >= 0 else len(text)].decode("ascii", "replace")
-                    yield Write(self.numbers[call], call, row, self.a0[name], self.memory.read(call.address, call.size),
-                                self.stacks.chunk.top(name, begin))
-                elif call.kind == READ_CALL:
-                    self.fill(call.address, call.address + call.size)
-        self.follow(text, at, len(text))
+                self.followed.go_to(begin)
+                row = text[begin:end if end >= 0 else len(text)].decode("ascii", "replace")
+                yield Write(self.numbers[call], call, row, self.a0[name], self.followed.memory.read(call.address, call.size),
+                            self.stacks.chunk.top(name, begin))
+        self.follow_a0(text, at, len(text))
 
-    def fill(self, first: int, end: int) -> None:
-        """A `read` call filled these addresses."""
-        for low, high in self.ranges:
-            self.memory.fill(max(first, low), max(0, min(end, high) - max(first, low)))
-
-    def follow(self, text: bytes, begin: int, end: int) -> None:
-        """The rows between two places of a chunk."""
-        for told in self.touched.finditer(text, begin, end):
-            address, value = text[told.end() - 9:told.end() - 1], text[told.end():told.end() + 8]
-            self.memory.known[int(address, 16) & ~3] = int(value, 16)
+    def follow_a0(self, text: bytes, begin: int, end: int) -> None:
+        """Of each hart the latest a0 between two places of a chunk."""
         left = set(self.a0)
-        while left and end >= begin:            # of each hart the latest a0
+        while left and end >= begin:
             end = text.rfind(SET, begin, end)
             name = hart_at(text, end) if end >= 0 else b""
             if name in left:
@@ -140,7 +136,9 @@ def numbered(log: Log) -> dict[SystemCall, int]:
 def writes_of(log: Log, elf: Elf, stacks: Stacks, numbers: dict[SystemCall, int], most: int) -> Iterator[Write]:
     """The writes among about so many of the last rows of a log. `numbers` are those of the whole log's."""
     first = log.rows() - most if log.rows() > 2 * most else 0
-    return Reader(log, elf, stacks, numbers).writes(after(first, chunks(log.name, elf.name, log=log)))
+    passed = Passed(log, elf.name)
+    texts = after(first, chunks(log.name, elf.name, log=log), passed.take)
+    return Reader(log, elf, stacks, numbers, passed if first else None).writes(texts)
 
 
 class Found(NamedTuple):

@@ -108,6 +108,8 @@ CASES = [
     Case("waits-one", ["-O0", G], ["--limit", "40000", "--interval", "10000000"], why("--rows", "5000")),
     Case("atomic", ["-O2", G], ["--limit", "3000"], why()),
     Case("keeps", ["-O2", G], ["--limit", "3000"], why()),
+    Case("both", ["-O1", G], ["--limit", "3000"], why(), harts=2),
+    Case("written_before", ["-O1", G], [], all_of(ask_output, times=9)),
     Case("readers", ["-O2", G], ["--seed", "3"], why(), harts=2),
     Case("other_byte", ["-O2", G], [], lambda asked: None, first=b"ab", second=b"x"),
     Case("read_call", ["-O2", G], [], history("text"), first=b"abxdefgh", second=b"abcdefgh"),

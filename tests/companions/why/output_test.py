@@ -7,7 +7,8 @@ import common
 from companion.recording.log import SystemCall
 from companion.recording.stacks import BOTTOM
 from companion.why.output import Found, Write, find_text
-from recordings import A0, A1, A2, A7, DATA, ECALL, EXIT, FIRST, T0, T1, addi, elf_of, load, lui
+from recordings import (A0, A1, A2, A7, DATA, ECALL, EXIT, FIRST, T0, T1, addi, branch_unless_equal, elf_of, load, lui,
+                        store)
 
 READ, WRITE = 63, 64
 
@@ -69,6 +70,16 @@ class OutputTest(case.Case):
         self.assertEqual(texts(said), "(8 unknown) ile\nunhe (4 unknown) ile\n")
         self.assertIn("1. 12 bytes to err, in ", said)
         self.assertIn("OUTPUT: 2 writes, 24 bytes, of which 12 aren't known\n", said)
+
+    def test_what_was_stored_before_the_rows_is_not_as_the_file_has_it(self):
+        """Most rows of the one interval are passed by, and so is the store of the first word."""
+        count = [lui(T0, DATA), addi(T1, 0, 200), store(T1, T0), addi(T1, T1, -1), branch_unless_equal(T1, 0, -4)]
+        elf = self.words("passed", count + call(WRITE, 1, DATA, 8) + list(EXIT))
+        log, written = self.recorded("passed", elf)
+        self.assertEqual((written, texts(self.says("output", log, elf))), ("\xc8\0\0\0he f",) * 2)
+        said = self.says("output", log, elf, "--rows", "20")
+        self.assertEqual(texts(said), "(8 unknown)")
+        self.assertIn(" to the output, in ", said)
 
     def test_calls_that_fail_wrote_nothing(self):
         elf = self.words("fails", call(WRITE, 7, DATA, 4) + call(WRITE, 1, DATA, 2) + list(EXIT))
