@@ -26,11 +26,13 @@ class Taken(NamedTuple):
 
 
 class Wait(NamedTuple):
-    """A hart whose loop would end once a lock is free, the row that looked at it last, and how it was taken."""
+    """A hart whose loop would end once a lock is free, the row that looked at it last, and how it was taken. `is_kept`: that
+    was before the loop in which the holder is."""
     hart: int
     lock: int
     row: int
     taken: Taken
+    is_kept: bool
 
 
 def waits_of(facts: Facts, changes: Sequence[Setting]) -> list[Wait]:
@@ -52,7 +54,8 @@ def wait_of(facts: Facts, loop: Loop, holders: dict[int, int]) -> Optional[Wait]
         lock = facts.rows.access(load).address & ~3 if load else 0
         taken = taken_in(facts, holders.get(lock, 0)) or taken_before(facts, load)
         if taken:
-            return Wait(loop.hart, lock, last_try(facts, loop.hart, lock) or load, taken)
+            is_kept = all(each.hart != taken.hart or taken.row < each.first for each in facts.loops)
+            return Wait(loop.hart, lock, last_try(facts, loop.hart, lock) or load, taken, is_kept)
     return None
 
 
@@ -79,9 +82,10 @@ def last_try(facts: Facts, hart: int, lock: int) -> int:
 
 
 def in_circle(waits: Sequence[Wait]) -> list[Wait]:
-    """Those that wait for each other, in their order from the lowest hart on. One that waits for itself is a circle, too."""
-    by_hart = {wait.hart: wait for wait in waits}
-    for first in waits:
+    """Those that wait for each other, in their order from the lowest hart on. One that waits for itself is a
+    circle, too. A holder that took the lock in its own loop gives it back there: that is no circle."""
+    by_hart = {wait.hart: wait for wait in waits if wait.is_kept}
+    for first in by_hart.values():
         circle: list[Wait] = []
         wait: Optional[Wait] = first
         while wait and wait not in circle:

@@ -1,11 +1,10 @@
 """What `why` says of harts that came to their limit: their loops, what would have ended these, what stopped before."""
 from __future__ import annotations
 
-from typing import NamedTuple
+from typing import NamedTuple, Optional
 
 from ..call.text import counted, number, short
 from ..recording.instruction import NAMES
-from ..recording.rows import STORES
 from .deadlock import deadlock_lines
 from .facts import Facts
 from .loops import Exit, Loop, Operand
@@ -35,7 +34,7 @@ def loop_lines(facts: Facts, loop: Loop, more: bool) -> list[str]:
     said.append("  These branches would have left it, and never went the other way:" if exits else
                 "  No branch of it leads out.")
     for item in exits[:MORE_EXITS if more else EXITS]:
-        said += exit_lines(facts, item)
+        said += exit_lines(facts, loop, item)
     return said + stopped_lines(facts, loop, MORE_STOPPED if more else STOPPED) + changing_lines(facts, loop)
 
 
@@ -52,17 +51,25 @@ def with_source(facts: Facts, n: int) -> str:
     return facts.where(n) + (f"   {source}" if source else "")
 
 
-def exit_lines(facts: Facts, item: Exit) -> list[str]:
+def exit_lines(facts: Facts, loop: Loop, item: Exit) -> list[str]:
     row = short(facts.rows.code_of(item.row).row, ROW_WIDTH)
     said = [f"    {with_source(facts, item.row)}",
             f"      {row}, {counted(item.times, 'time')}, last at count {number(facts.rows.count_of(item.row))}"]
-    said += [f"      {operand_words(facts, operand)}" for operand in item.operands]
+    said += [f"      {operand_words(facts, loop, operand)}" for operand in item.operands]
     return said + (["      the other value is 0"] if len(item.operands) < 2 else [])
 
 
-def operand_words(facts: Facts, operand: Operand) -> str:
+def value_of(facts: Facts, loop: Loop, operand: Operand) -> Optional[int]:
+    """What a branch compared. A register that no row wrote, and the loop doesn't, is as it is at the end."""
+    if operand.row:
+        return facts.rows.result_of(operand.row)
+    is_written = any(facts.rows.codes[at].rd == operand.register for at in loop.places)
+    return None if is_written else facts.rows.final[loop.hart][operand.register]
+
+
+def operand_words(facts: Facts, loop: Loop, operand: Operand) -> str:
     """What a value is, which row loaded it, and who stored it last."""
-    rows, writers, value = facts.rows, facts.writers, facts.rows.result_of(operand.row)
+    rows, writers, value = facts.rows, facts.writers, value_of(facts, loop, operand)
     told = rows.load_of(operand.load) if operand.load else None
     said = f"{NAMES[operand.register]} is " + ("unknown" if value is None else f"{value:08x}")
     if told is None:
@@ -85,10 +92,11 @@ def moment(facts: Facts, n: int) -> str:
 
 
 class Line(NamedTuple):
-    """A source line that ran often and then never again: the row to tell, its latest row, how often it ran."""
-    row: int
+    """A source line that ran often and then never again: its latest row, how often it ran, and whether
+    it stored what an exit loads."""
     latest: int
     times: int
+    is_wanted: bool
 
 
 def stopped_lines(facts: Facts, loop: Loop, most: int) -> list[str]:
@@ -97,17 +105,16 @@ def stopped_lines(facts: Facts, loop: Loop, most: int) -> list[str]:
     running = {facts.places.line(facts.rows.codes[at].pc) for at in loop.places}
     facts.places.fetch({facts.pc_of(item.row) for item in loop.stopped})
     lines: dict[str, Line] = {}
-    for row, times in loop.stopped:
+    for row, times in loop.stopped:             # (of a line the latest row comes first)
         name = facts.line(row)
         if name not in running:
-            line = lines.get(name, Line(row, row, times))
-            better = max(line.row, row, key=lambda n: (n in wanted, facts.rows.flags[n] & STORES, n))
-            lines[name] = Line(better, line.latest, max(line.times, times))
-    found = sorted(lines.values(), key=lambda line: (line.row not in wanted, -line.latest))
+            line = lines.get(name, Line(row, times, False))
+            lines[name] = Line(line.latest, max(line.times, times), line.is_wanted or row in wanted)
+    found = sorted(lines.values(), key=lambda line: (not line.is_wanted, -line.latest))
     said = ["  These ran often, and then never again:"] if found else []
     for line in found[:most]:
-        count = number(facts.rows.count_of(line.row))
-        said.append(f"    {counted(line.times, 'time')}, last at count {count}: {with_source(facts, line.row)}")
+        count = number(facts.rows.count_of(line.latest))
+        said.append(f"    {counted(line.times, 'time')}, last at count {count}: {with_source(facts, line.latest)}")
     rest = len(found) - most
     return said + ([f"    .. {counted(rest, 'more line')} (--more) .."] if rest > 0 else [])
 
@@ -126,8 +133,9 @@ def changing_lines(facts: Facts, loop: Loop) -> list[str]:
         return ["  No word that it stores changes." if loop.stores else "  It stores nothing."]
     said = ["  These words still change:"]
     for word in changing[:WORDS]:
-        name, told = facts.members.name(word), facts.rows.store_of(latest[word])
-        value = f"{told.value:08x}" if told else ""
-        said.append(f"    {word:08x}{f' ({name})' if name else ''}, now {value}, in {facts.where(latest[word])}")
+        name = facts.members.name(word)
+        last = facts.rows.last_access(word, facts.rows.size + 1)        # another hart's, maybe
+        told = facts.rows.store_of(last) or facts.rows.access(last)
+        said.append(f"    {word:08x}{f' ({name})' if name else ''}, now {told.value:08x}, in {facts.where(latest[word])}")
     rest = len(changing) - WORDS
     return said + ([f"    .. {counted(rest, 'more word')} .."] if rest > 0 else [])

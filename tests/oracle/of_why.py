@@ -3,10 +3,11 @@ from __future__ import annotations
 
 import random
 import re
+from collections import Counter
 from typing import Any, Dict, List, Optional, Tuple
 
 from .asking import Asked
-from .machine import NAMES, READ, Machine, Row
+from .machine import NAMES, READ, REGISTER, Machine, Row
 
 NEVER = re.compile(r"from ([\w.[\]]+(?:\+\d+)?)(?: \(a word of \w+\))?, zero from the start: never stored")
 WORD = re.compile(r"from ([\w.[\]]+(?:\+\d+)?)(?: \(a word of \w+\))?, ")
@@ -14,7 +15,17 @@ STORED = re.compile(r"(?:, stored (?:last )?|[;,] (?:later )?)in .*? \(hart (\d+
 CALLED = re.compile(r"\s+(?:by [^,]+, )?called from (.*)")
 ROW = re.compile(r"\s+(\d+) (\d+) [0-9a-f]{8} ")
 UNLOCKED = re.compile(r"\s*\d+\. hart (\d+) didn't hold the others' lock in ")
+GOES = re.compile(r"hart (\d+) goes round ")
+LEFT_STACK = re.compile(r"  The stack of hart (\d+) left its [\d,]+ bytes at ([0-9a-f]{8})(?: \(.*?\))?: its pointer was ([0-9a-f]{8})"
+                        r"(?: \(.*?\))?, ([\d,]+) bytes? below them, at count ([\d,]+) in (.*)\.")
+NULL = re.compile(r"  The null is what (.*) returned to (.*)\.")
+MIDDLE = re.compile(r"  The jump through a pointer in (.*) \(hart (\d+) at count ([\d,]+)\) led into the middle of (.*), to (\w+)\.")
+BRANCH = re.compile(r"      [0-9a-f]{8} [0-9a-f]{8} b.*, [\d,]+ times?, last at count ([\d,]+)")
+OPERAND = re.compile(r"      (\w+) is (\w+)")
+NOW = re.compile(r"    ([0-9a-f]{8})(?: \(.*\))?, now ([0-9a-f]{8}), in ")
+STOPPED = re.compile(r"    ([\d,]+) times?, last at count ([\d,]+): (.*)")
 HOLD = re.compile(r"other accesses to .* their hart holds (.*?), here ")
+OFTEN = 3                   # what was done less often is no line that ran often
 LEFT_OUT = re.compile(r"Only the last|left out|--rows N")
 
 
@@ -89,8 +100,20 @@ def ask_why(asked: Asked, _draw: random.Random, *words: str) -> None:
     ask_facts(asked, told, words)
     for suspect in told["suspects"]:
         ask_suspect(asked, words, suspect, stored)
+    hart = count = 0
     for line in told["hang"]:
+        goes = GOES.match(line)
+        hart = int(goes[1]) if goes else hart
+        branch = BRANCH.match(line)
+        count = int(branch[1].replace(",", "")) if branch else count
+        operand = OPERAND.match(line)
+        if operand and operand[1] in REGISTER:
+            value = register_at(asked, hart, count, operand[1])
+            asked.same("why: compared", words, (line, operand[2]), (line, f"{value:08x}"))
         ask_hang(asked, words, line, stored)
+        ask_now(asked, words, line)
+        if told["rows"] >= len(asked.machine.rows) - 1:
+            ask_stopped(asked, words, line, hart)
     for each in told["before"]:
         ask_before(asked, words, each, stored)
     text = asked.text("why", "--more", *words)
@@ -152,6 +175,37 @@ def ask_hang(asked: Asked, words: Tuple[str, ...], line: str, stored: Bytes) -> 
         asked.same("why: stored last", words, (line, number in rows), (line, True))
 
 
+def register_at(asked: Asked, hart: int, count: int, name: str) -> int:
+    """What a hart's register holds before its row of a count."""
+    value = asked.machine.head.first[hart][1][REGISTER[name]]
+    for row in asked.machine.rows:
+        if row.hart == hart and row.ic < count and row.register == name:
+            value = row.result
+    return value
+
+
+def ask_now(asked: Asked, words: Tuple[str, ...], line: str) -> None:
+    """What a word holds at the end."""
+    now = NOW.match(line)
+    value = asked.machine.memory.word(int(now[1], 16)) if now else None
+    if now and value is not None:
+        asked.same("why: now", words, (line, now[2]), (line, f"{value:08x}"))
+
+
+def ask_stopped(asked: Asked, words: Tuple[str, ...], line: str, hart: int) -> None:
+    """Of all rows the last one of the line, but for what was done seldom, and how often the line was done most."""
+    stopped = STOPPED.match(line)
+    if not stopped:
+        return
+    row = asked.machine.rows[asked.machine.at[hart, int(stopped[2].replace(",", ""))]]
+    mine = [each for each in asked.machine.rows if each.hart == hart]
+    runs = Counter(each.code.pc for each in mine)
+    often = {pc for pc, times in runs.items() if times >= OFTEN and line_at(asked, pc) == line_at(asked, row.code.pc)}
+    true = f"{max(runs[pc] for pc in often):,} times, last at count {[each.ic for each in mine if each.code.pc in often][-1]:,}"
+    asked.same("why: never again", words, line.partition(": ")[0].strip(), true)
+    asked.same("why: place of what stopped", words, (line, stopped[3].startswith(text_of(asked, row))), (line, True))
+
+
 def ask_before(asked: Asked, words: Tuple[str, ...], told: Dict[str, Any], stored: Bytes) -> None:
     """Of the loads at its place one has a byte that no row had stored, and that is 0."""
     if told["words"] != "zero from the start: never stored":
@@ -173,10 +227,16 @@ def text_of(asked: Asked, row: Row) -> str:
     return places[0].text() if places else f"{row.code.pc:08x}"
 
 
+def line_at(asked: Asked, pc: int) -> str:
+    places = asked.program.places(pc)
+    return f"{places[0].file}:{places[0].line}" if places and places[0].line else f"{pc:08x}"
+
+
 def ask_text(asked: Asked, words: Tuple[str, ...], text: List[str]) -> None:
     """What only the text says."""
     unlocked, caller = "", ""
     for line in text:
+        ask_head(asked, words, line)
         called, row = CALLED.fullmatch(line), ROW.match(line)
         if called:
             caller = called[1]
@@ -193,6 +253,38 @@ def ask_text(asked: Asked, words: Tuple[str, ...], text: List[str]) -> None:
             for name in held[1].split(", "):
                 ask_lock(asked, words, unlocked.strip(), name)
             unlocked = ""
+
+
+def row_of(asked: Asked, hart: str, count: str) -> Row:
+    return asked.machine.rows[asked.machine.at[int(hart), int(count.replace(",", ""))]]
+
+
+def ask_head(asked: Asked, words: Tuple[str, ...], line: str) -> None:
+    """Of a stack that was left the row that set its pointer; of a null a call that returned it; of a jump into a function's
+    middle where it led."""
+    left, null, middle = (each.fullmatch(line) for each in (LEFT_STACK, NULL, MIDDLE))
+    if left:
+        row = row_of(asked, left[1], left[5])
+        below = int(left[2], 16) - int(left[4].replace(",", ""))
+        told = (row.register, f"{row.result:08x}", text_of(asked, row))
+        asked.same("why: left its stack", words, told, ("sp", left[3], left[6]))
+        asked.same("why: so far below", words, (line, f"{below:08x}"), (line, left[3]))
+    if null:
+        calls = [each for each in asked.machine.all if each.end is not None and each.result[0] == 0]
+        true = {(name_at(asked, each.target), text_of(asked, each.source)) for each in calls if each.source}
+        asked.same("why: returned the null", words, (line, (null[1], null[2]) in true), (line, True))
+    if middle:
+        row = row_of(asked, middle[2], middle[3])
+        to = next(each for each in asked.machine.rows[row.number + 1:] if each.hart == row.hart)
+        inside = [each.name for each in asked.program.symbols if each.address < to.code.pc < each.address + each.size]
+        asked.same("why: jumped into", words, (line, middle[4] in inside, f"{to.code.pc:08x}", text_of(asked, row)),
+                   (line, True, middle[5], middle[1]))
+
+
+def name_at(asked: Asked, pc: int) -> str:
+    """The outermost function at an address."""
+    places = asked.program.places(pc)
+    return places[-1].function if places else f"{pc:08x}"
 
 
 def ask_lock(asked: Asked, words: Tuple[str, ...], line: str, name: str) -> None:

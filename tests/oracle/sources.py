@@ -208,6 +208,17 @@ def same_again(draw: Draw, n: str) -> Piece:
     if (same{n} > {draw.randrange(9)}) got++;""")
 
 
+def conditional(draw: Draw, n: str) -> Piece:
+    """By load-reserved and store-conditional, which stores 0 as well, and what was there."""
+    return Piece(f"""int slot{n} = 3;
+OWN int put{n}(int old, int new)
+{{
+    __atomic_compare_exchange_n(&slot{n}, &old, new, 0, __ATOMIC_SEQ_CST, __ATOMIC_SEQ_CST);
+    return old;
+}}
+""", f"got += put{n}(3, 0) + put{n}(0, 0) + put{n}(0, {draw.randrange(1, 9)}) + put{n}(99, 1) + slot{n};")
+
+
 def calculation(draw: Draw, n: str) -> Piece:
     code = ""
     names: List[str] = []
@@ -254,16 +265,22 @@ OWN void share{n}(int h, int times)
 
 MAKERS: Dict[str, Maker] = {
     "recursion": recursion, "mutual": mutual, "rounds": rounds, "seldom": seldom, "assembly": assembly, "indirect": indirect,
-    "reads": reads, "echo": echo, "loops": loops, "moves": moves, "numbers": numbers, "same": same_again, "calculation": calculation, "said": said}
+    "reads": reads, "echo": echo, "loops": loops, "moves": moves, "numbers": numbers, "same": same_again, "conditional": conditional,
+    "calculation": calculation, "said": said}
 ENDS = {
     "exit": "return got & 63;",
     "fault": "{ int *volatile lost = (int *)((got & 0xffff) + 0x7fff0000); return *lost; }",
     "null": "{ static char *volatile none; return none[got & 7]; }",
     "store": "{ *(volatile int *)0x10100 = got; return 0; }",
     "hang": "{ flag = 0; for (int i = 0; i < 300; i++) work++; while (!*(volatile int *)&flag) ; return 0; }",
+    "count": "{ flag = 0; while (!*(volatile int *)&flag) *(volatile int *)&work += 1; return 0; }",
     "atomic": "{ __atomic_store_n(&flag, 0, __ATOMIC_SEQ_CST); while (!__atomic_load_n(&flag, __ATOMIC_RELAXED)) ; return 0; }",
     "jump": "{ void (*volatile off)(void) = (void (*)(void))((got & 0xfffc) | 0x40000000); off(); return 0; }",
 }
+
+
+# What harts but the first do then.
+OTHERS = "if (h) { return 0; }", "if (h) { while (*(volatile int *)&flag < 77) *(volatile int *)&work += h; return 0; }"
 
 
 def program(draw: Draw, harts: int, names: List[str], end: str) -> str:
@@ -271,7 +288,7 @@ def program(draw: Draw, harts: int, names: List[str], end: str) -> str:
     pieces: List[Tuple[str, Piece]] = [(name, MAKERS[name](draw, str(at))) for at, name in enumerate(names)]
     shared = threads(draw, "t") if harts > 1 else Piece("", "")
     calls = "\n    ".join(piece.call for _, piece in pieces)
-    others = "if (h) { return 0; }" if harts > 1 else ""
+    others = draw.choice(OTHERS) if harts > 1 else ""
     return (HEAD + "int flag = 5, work;\n" + shared.code + "".join(piece.code for _, piece in pieces) + f"""
 int main(int h, int harts)
 {{

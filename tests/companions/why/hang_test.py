@@ -1,16 +1,29 @@
 """What `why` says of harts that came to their limit: its loop, since when, and what never happened, against the rows."""
+import collections
 import re
 
 import case
 import common
-from recordings import DATA, EXIT, T0, T1, T2, addi, atomic, branch_unless_equal, elf_of, load, lui, store
+from recordings import A0, DATA, EXIT, T0, T1, T2, addi, atomic, branch_unless_equal, elf_of, load, lui, store
 
 from companion.why import analysis
 from companion.why.analysis import analysed
 from companion.why.hang import hang_lines
 
-S0, SWAP, LR, SC = 8, 1, 2, 3
+S0, S1, S2, SWAP, LR, SC = 8, 9, 18, 1, 2, 3
 HANGS = "hang_width", "hang_wakeup", "hang", "lock_left_held"
+
+
+def slli(to, base, bits):
+    return bits << 20 | base << 15 | 1 << 12 | to << 7 | 0x13
+
+
+def add(to, one, other, is_less=0):
+    return is_less << 30 | other << 20 | one << 15 | to << 7 | 0x33
+
+
+def sub(to, one, other):
+    return add(to, one, other, 1)
 
 
 def rows_of(log, elf):
@@ -39,6 +52,31 @@ class HangTest(case.Case):
         stopped = said[said.index("never again:"):].split("\n")
         self.assertEqual(stopped[1].strip(), "256 times, last at count 51,647: receive hang_width.c:69   receiver.stored++;")
         self.assertRegex(said, r"still change:\n(.*\n)* +00019608 \(line_is_full\), now 0000000[01], in")
+
+    def test_a_word_that_two_harts_change_has_one_value_now(self):
+        count = [load(T1, S0), addi(T1, T1, 1), store(T1, S0), branch_unless_equal(S0, 0, -12)]
+        elf = common.written(common.path("both.elf"), elf_of([lui(S0, DATA), *count]))
+        log = common.record("both", elf, "--seed", "3", "--harts", "2", "--limit", "4000")
+        told = re.findall(r"^ +00020000, now (\w+), in ", self.says("why", log, elf), re.M)
+        last = [row[-1] for row in common.rows(log, elf) if row[-1].startswith("00020000=")][-1]
+        self.assertEqual(told, [last[9:]] * 2)
+
+    def test_a_line_that_stopped_is_told_with_its_last_row(self):
+        """A line can store, and run again without it."""
+        told = re.compile(r"^ +([\d,]+) times, last at count ([\d,]+): \w+ (\S+) ", re.M)
+        for name in ("hang_width", "hang"):     # of one hart
+            log, elf = self.crash(name)
+            with analysed(log, elf) as facts:
+                pcs = [facts.pc_of(n) for n in range(1, facts.rows.size + 1)]
+                facts.places.fetch(pcs)
+                lines = list(map(facts.places.line, pcs))
+                for times, count, place in told.findall(self.hang(name, "--more")):
+                    mine = [n for n, line in enumerate(lines, 1) if line == place]
+                    self.assertIn(int(count.replace(",", "")), map(facts.rows.count_of, mine), place)
+                    runs = collections.Counter(pcs[n - 1] for n in mine)
+                    self.assertIn(int(times.replace(",", "")), runs.values(), place)
+                    often = [n for n in mine if runs[pcs[n - 1]] >= 3]
+                    self.assertEqual(int(count.replace(",", "")), facts.rows.count_of(often[-1]), place)
 
     def test_two_harts_that_wait(self):
         said = self.hang("hang_wakeup")
@@ -113,7 +151,9 @@ class HangTest(case.Case):
             self.assertIn("t1 is 00000000, from 00020000, stored before the rows that were read, by hart 0 at "
                           f"count {count} in ", self.bounded(*names))
         self.flags(())
-        self.assertIn("zero from the start, or stored before the rows", self.bounded(*names))
+        said = self.bounded(*names)
+        self.assertIn("zero from the start, or stored before the rows", said)
+        self.assertIn("      s0 is 00020000\n", said)      # which no row that was read wrote
 
     def test_a_deadlock_from_before_the_rows(self):
         """Who holds the locks is the same, however few rows are read."""
@@ -138,6 +178,18 @@ class HangTest(case.Case):
         said = self.hang("hang_kitchen").split("\n")[2]
         self.assertEqual(re.findall(r"hart (\d) \(take hang_kitchen.c:38\) waits for tools\S* of hart (\d) ", said),
                          [(str(hart), str((hart + 1) % 5)) for hart in range(5)])
+
+    def test_who_gives_its_lock_back_again_is_in_no_deadlock(self):
+        """Two harts that take turns take their locks, try each other's, and give theirs back, for ever."""
+        elf = common.written(common.path("polite.elf"), elf_of([
+            lui(S0, DATA), slli(T0, A0, 6), add(S1, S0, T0), addi(T1, 0, 64), sub(T1, T1, T0), add(S2, S0, T1), addi(T2, 0, 1),
+            atomic(SWAP, T0, S1, T2), atomic(SWAP, T0, S2, T2), branch_unless_equal(T0, 0, 8), 0x6f,
+            store(0, S1), branch_unless_equal(T2, 0, -20)]))
+        turns = common.written(common.path("turns"), bytes((0, 1)) * 2000)
+        log = common.record("polite", elf, "--harts", "2", "--limit", "1500", schedule=f"book:{turns}")
+        said = self.says("why", log, elf)
+        self.assertRegex(said, r"\n  hart 0 \(\w+\) waits for 00020040 of hart 1 ")
+        self.assertNotIn("Deadlock", said)
 
     def test_a_lock_that_its_hart_holds_itself(self):
         said = self.hang("lock_left_held")
