@@ -7,6 +7,7 @@ from __future__ import annotations
 
 import bisect
 from array import array
+from functools import cached_property
 from types import MappingProxyType
 from typing import Mapping, NamedTuple, Optional
 
@@ -99,6 +100,14 @@ class Tail(NamedTuple):
     a0: int
 
 
+class Paired(NamedTuple):
+    """Calls and the returns from them, as places among the jumps, in the order of the returns. `left` has {hart: its calls
+    that didn't return, outermost first}."""
+    calls: array[int]
+    backs: array[int]
+    left: dict[int, list[int]]
+
+
 class Calls:
     """How harts were called.
 
@@ -141,3 +150,24 @@ class Calls:
     def above(self, n: int, most: int) -> Above:
         """So many of the calls that a row is in."""
         return self.tree.calls(self.node_of(n), most)
+
+    @cached_property
+    def paired(self) -> Paired:
+        """Once all rows are read. A return is that from the nearest call behind which it leads; one that fits none is of
+        none, and calls in one that has returned never will."""
+        rows, found = self.rows, Paired(array("I"), array("I"), {hart: [] for hart in self.goes})
+        for at, n in enumerate(self.jumps):
+            left = found.left[rows.hart[n]]
+            if rows.code_of(n).call:
+                left.append(at)
+                continue
+            following = rows.following(n)
+            place = rows.code_of(following).pc - 4 if following else 0
+            under = len(left) - 1
+            while under >= 0 and rows.code_of(self.jumps[left[under]]).pc != place:
+                under -= 1
+            if under >= 0:
+                found.calls.append(left[under])
+                found.backs.append(at)
+                del left[under:]
+        return found

@@ -86,30 +86,14 @@ class Blocks:
 
     def matched(self) -> list[Given]:
         """The blocks of all calls that return an address of data."""
-        rows, calls, found = self.rows, self.calls, []
-        stacks: dict[int, list[int]] = {}       # {hart: its calls, as places among the jumps}
-        for at in range(self.first, len(calls.jumps)):
-            n = calls.jumps[at]
-            stack = stacks.setdefault(rows.hart[n], [])
-            if rows.code_of(n).call:
-                stack.append(at)
-                continue
-            call = self.call_behind(n, stack)
-            address = calls.a0[at]
-            if call is not None and self.is_given(address, calls.a0[call]):
-                entry = self.entry(calls.jumps[call])
-                found.append(Given(Block(calls.jumps[call], n, entry, address), calls.writers[at]))
+        calls, found = self.calls, []
+        for call, back in zip(calls.paired.calls, calls.paired.backs):
+            address = calls.a0[back]
+            if call >= self.first and self.is_given(address, calls.a0[call]):
+                row = calls.jumps[call]
+                block = Block(row, calls.jumps[back], self.entry(row), address)
+                found.append(Given(block, calls.writers[back]))
         return found
-
-    def call_behind(self, n: int, stack: list[int]) -> Optional[int]:
-        """The call that a return belongs to: the one that the next row follows."""
-        rows, calls = self.rows, self.calls
-        known = n < rows.size and rows.hart[n + 1] == rows.hart[n]
-        while stack:
-            call = stack.pop()
-            if not known or rows.code_of(calls.jumps[call]).pc + 4 == rows.code_of(n + 1).pc:
-                return call
-        return None
 
     def entry(self, call: int) -> int:
         """The called function's first address: the place of its first row."""

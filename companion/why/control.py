@@ -26,19 +26,8 @@ class Control:
         self.rows, self.writers, self.calls = trace
         self.code: dict[int, Optional[Instruction]] = {ins.pc: ins for ins in trace.rows.codes}
         self.ways: dict[tuple[int, int], bool] = {}
-        self.call_of = self.matched()
-
-    def matched(self) -> dict[int, int]:
-        """{row of a return: the row of its call}"""
-        rows, calls, found = self.rows, self.calls, {}
-        stacks: dict[int, list[int]] = {}
-        for n in calls.jumps:
-            stack = stacks.setdefault(rows.hart[n], [])
-            if rows.code_of(n).call:
-                stack.append(n)
-            elif stack:
-                found[n] = stack.pop()
-        return found
+        paired, jumps = self.calls.paired, self.calls.jumps
+        self.call_of = {jumps[back]: jumps[call] for call, back in zip(paired.calls, paired.backs)}      # by rows
 
     def before(self, row: int) -> int:
         """The branch that decided that a row was reached, or 0."""

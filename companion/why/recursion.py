@@ -20,7 +20,8 @@ class Recursion(NamedTuple):
 
 
 def find_recursion(trace: Trace, start: int) -> Recursion:
-    made, calls = trace.calls, live_calls(trace, trace.rows.hart[start])
+    made = trace.calls
+    calls = made.paired.left[trace.rows.hart[start]]
     if len(calls) < DEEP:
         return Recursion([], [])
     places = [trace.rows.code_of(made.jumps[at]).pc for at in calls]
@@ -32,15 +33,3 @@ def find_recursion(trace: Trace, start: int) -> Recursion:
     suspect.why.append(f"the stack is {number(len(calls))} calls deep, and {number(times)} of them are this one")
     asked = calls[ASKED_FROM:ASKED_FROM + ASKED_CALLS]
     return Recursion([suspect], [made.writers[at] for at in asked if made.writers[at]])
-
-
-def live_calls(trace: Trace, hart: int) -> list[int]:
-    """The calls of a hart that haven't returned, outermost first, as places among the trace's jumps."""
-    calls: list[int] = []
-    for at, n in enumerate(trace.calls.jumps):
-        if trace.rows.hart[n] == hart:
-            if trace.rows.code_of(n).call:
-                calls.append(at)
-            elif calls:
-                calls.pop()
-    return calls
