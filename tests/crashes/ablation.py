@@ -3,11 +3,13 @@
 
     ablation.py [WORD..]        all rules, or those whose names begin with one of these words
 
-Each line is a rule, the share of all programs and of each group without it, and which go out (-) or come in (+)."""
+Each line is a rule, the share of all programs and of each group without it, and which go out (-) or come in (+). One in
+brackets is named by a fact as well: an error of memory, a lock in a deadlock, what is said of the fault."""
 import copy
 import importlib
 import multiprocessing
 import os
+import re
 import sys
 from typing import Any, Dict
 
@@ -15,7 +17,9 @@ HERE = os.path.dirname(os.path.abspath(__file__))
 sys.path[:0] = [os.path.join(HERE, "..", "companions", part) for part in ("lib", "why")]
 from common import crashes, record                  # noqa: E402
 from companion.why import analysis, facts, locks, memory_use, report, suspects       # noqa: E402
+from companion.why.deadlock import deadlock_lines       # noqa: E402
 from companion.why.history import History               # noqa: E402
+from companion.why.memory_part import MemoryErrors      # noqa: E402
 from companion.recording.opened import opened           # noqa: E402
 from crashes_test import FIRST, rank_of              # noqa: E402
 
@@ -116,8 +120,14 @@ def place(found, program):
     return rank_of(program.guilty, "SUSPECTS\n" + "".join("  %s\n" % line for line in lines) + "END")
 
 
+def is_fact(found, program):
+    """Whether a fact names the guilty line."""
+    said = report.head_lines(found) + deadlock_lines(found) + MemoryErrors(found).lines()
+    return re.search(re.escape(program.guilty) + r"(?!\d)", "\n".join(said)) is not None
+
+
 def tried(given):
-    """A program's name and {rule: the guilty line's place}. What no rule changes is done once."""
+    """A program's name, {rule: the guilty line's place}, and whether a fact names it. What no rule changes is done once."""
     name, rules = given
     program = crashes()[name]
     for module, word in PURE:
@@ -125,7 +135,7 @@ def tried(given):
     for module, word in FINDERS:
         remember(module, word, copy.deepcopy)
     with opened(record(name, program.elf, *program.options), program.elf) as asked:
-        return name, without(asked, program, rules)
+        return name, *without(asked, program, rules)
 
 
 def without(asked, program, rules):
@@ -133,6 +143,7 @@ def without(asked, program, rules):
     first = analysed(asked, program)
     said = "\n".join(word for item in first.suspects for word in item.why + [extra.words for extra in item.extra])
     got = dict.fromkeys(rules, place(first, program))
+    named = is_fact(first, program)
     analysis.read_trace = lambda *_given, **_named: first.trace
     first.races.read = nothing
     analysis.Races = lambda *_given: first.races
@@ -145,22 +156,28 @@ def without(asked, program, rules):
                 setattr(module, word, new if is_searched else known)
             got[rule] = place(analysed(asked, program), program)
             set_all(before)
-    return got
+    return got, named
 
 
 def main(words):
     rules = [ALL] + [rule for rule in RULES if rule != ALL and (not words or rule.startswith(tuple(words)))]
     programs = crashes()
     with multiprocessing.Pool(AT_ONCE, maxtasksperchild=1) as pool:
-        found = dict(pool.imap_unordered(tried, [(name, rules) for name in programs], 1))
+        tries = list(pool.imap_unordered(tried, [(name, rules) for name in programs], 1))
+    found = {name: places for name, places, _ in tries}
+    named = {name for name, _, is_named in tries if is_named}
     groups = list(dict.fromkeys(program.group for program in programs.values()))
     print("| without | all | %s | |" % " | ".join(groups))
     good = {rule: {name for name in found if 0 < found[name][rule] <= FIRST} for rule in rules}
+
+    def told(sign, names):
+        return [f"({sign}{name})" if name in named else sign + name for name in sorted(names)]
     for rule in rules:
         shares = [sum(programs[name].group == group for name in good[rule]) for group in groups]
-        less, more = sorted(good[ALL] - good[rule]), sorted(good[rule] - good[ALL])
-        print("| %s | %d | %s | %s |" % (rule, len(good[rule]), " | ".join(map(str, shares)),
-                                         " ".join(["-" + name for name in less] + ["+" + name for name in more])))
+        changed = told("-", good[ALL] - good[rule]) + told("+", good[rule] - good[ALL])
+        print("| %s | %d | %s | %s |" % (rule, len(good[rule]), " | ".join(map(str, shares)), " ".join(changed)))
+    print("By a fact %d: %s" % (len(named), " ".join(sorted(named))))
+    print("By either %d" % len(good[ALL] | named))
 
 
 if __name__ == "__main__":
