@@ -25,6 +25,7 @@ LONGEST_CALL = 4096                             # bytes that a call moves at mos
 MOST_HARTS = 16
 NO_END = ""                                     # the reason of an interval without an End
 DIGEST, SEAL = 32, 48           # bytes of a digest, and of what ends a block
+LENGTH_BACK = 36                # bytes from a block's end back to the length of its records
 # Most records are FirstLoads and Edges: so many that follow each other are passed at once. The sizes are those of SIZES.
 RUNS = re.compile(rb"(?:\x02.{9}){1,1000}|(?:\x05.{18}){1,1000}|\x01.{145}|\x06.{14}|\x03.|\x04.", re.S)
 FIRST_FAULT = 17                                # the number of the first reason that is a fault
@@ -121,7 +122,7 @@ class Log:
             return data[head.records_at:-DIGEST]
         pieces, end = [], len(data)
         while end > head.records_at:            # sealed blocks, from the last one back
-            size, = struct.unpack_from("<I", data, end - 36)
+            size, = struct.unpack_from("<I", data, end - LENGTH_BACK)
             pieces.append(data[end - SEAL - size:end - SEAL])
             end -= size + SEAL
         if end < head.records_at:
