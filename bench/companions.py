@@ -1,10 +1,11 @@
 #!/usr/bin/env python3
-"""Tells what the companions take of large logs: processor seconds, with those of the program that they ask, and the most
-memory of a process.
+"""Tells what the companions take of large logs: processor seconds, with those of the program that
+they ask, and the most memory of a process.
 
-bench/companions.py [FOLDER]: the logs are recorded in FOLDER, or in one that goes; those that are there are taken. If the
-folder that $ZELKUMA_GUESTS names has lua.elf and lua.input (bench/guests.sh), it is recorded to 80 million instructions;
-else a program of its own takes its place. Each line says if the figure is within its goal.
+bench/companions.py [FOLDER]: the logs are recorded in FOLDER, or in one that goes; those that are
+there are taken. If the folder that $ZELKUMA_GUESTS names has lua.elf and lua.input
+(bench/guests.sh), it is recorded to 80 million instructions; else a program of its own takes its
+place. Each line says if the figure is within its goal.
 """
 import os
 import subprocess
@@ -14,10 +15,14 @@ import tempfile
 TOP = os.path.dirname(os.path.dirname(os.path.realpath(__file__)))
 sys.path[:0] = [f"{TOP}/tests/hostile", f"{TOP}/tests/companions/lib"]
 import forge  # noqa: E402
-from recordings import A0, A1, A2, A7, ECALL, PROGRAM, T0, T1, T2, addi, branch_unless_equal, load, lui, store  # noqa: E402
+from recordings import (  # noqa: E402
+    A0, A1, A2, A7, ECALL, PROGRAM, T0, T1, T2, addi, branch_unless_equal, load, lui, store)
 
 HALTED = (0, 10, 11)
-S0, S1, ROUNDS, FOREVER = 8, 9, 28, 0x6F
+S0 = 8
+S1 = 9
+ROUNDS = 28
+FOREVER = 0x6F
 MEGABYTES = 200
 STAND_IN = 26_600_000                   # rounds of three instructions
 
@@ -33,7 +38,8 @@ def rounds(count, register, words):
 
 def far_store(count):
     """A bad pointer is stored, so many rounds pass, and it is used."""
-    return [lui(S0, 0x20000), addi(T0, 0, -1), store(T0, S0), *rounds(count, ROUNDS, [addi(T1, T1, 3)]), load(T2, S0), load(T2, T2)]
+    return [lui(S0, 0x20000), addi(T0, 0, -1), store(T0, S0),
+            *rounds(count, ROUNDS, [addi(T1, T1, 3)]), load(T2, S0), load(T2, T2)]
 
 
 def writes(count):
@@ -55,12 +61,14 @@ class Logs:
 
     def made(self, name, words, *options, elf=None):
         """The log and the program file of a recording."""
-        log, file = f"{self.folder}/{name}.log", elf or f"{self.folder}/{name}.elf"
+        log = f"{self.folder}/{name}.log"
+        file = elf or f"{self.folder}/{name}.elf"
         if not elf:
             with open(file, "wb") as opened:
                 opened.write(forge.program(*words))
         if not os.path.exists(log):
-            ran = subprocess.run([PROGRAM, "record", "--lean", "--seed", "1", *map(str, options), file, log, log],
+            ran = subprocess.run([PROGRAM, "record", "--lean", "--seed", "1",
+                                  *map(str, options), file, log, log],
                                  stdout=subprocess.DEVNULL, stderr=subprocess.PIPE)
             if ran.returncode not in HALTED:
                 sys.exit(f"{name}: {ran.stderr.decode()}")
@@ -69,9 +77,11 @@ class Logs:
     def lua(self):
         guests = os.environ.get("ZELKUMA_GUESTS", "")
         if os.path.exists(f"{guests}/lua.elf"):
-            return self.made("lua", (), "--format", 2, "--log-size", "268435456", "--memory", "4194304", "--limit", 80_000_000,
-                             "--input", f"{guests}/lua.input", elf=f"{guests}/lua.elf"), "80 M rows of Lua"
-        return self.made("far", far_store(STAND_IN), "--format", 2), "80 M rows, a store 80 M before"
+            return self.made("lua", (), "--format", 2, "--log-size", "268435456", "--memory",
+                             "4194304", "--limit", 80_000_000, "--input", f"{guests}/lua.input",
+                             elf=f"{guests}/lua.elf"), "80 M rows of Lua"
+        return (self.made("far", far_store(STAND_IN), "--format", 2),
+                "80 M rows, a store 80 M before")
 
 
 def measured(words):
@@ -86,7 +96,8 @@ def measured(words):
 def told(what, words, goal):
     seconds, memory = measured([sys.executable, "-B", f"{TOP}/companion", *words])
     within = "within" if seconds <= goal and memory <= MEGABYTES else "over"
-    print(f"{what:<44} {words[0]:<7} {seconds:6.1f} s  {memory:4.0f} MB  {within} {goal} s and {MEGABYTES} MB", flush=True)
+    print(f"{what:<44} {words[0]:<7} {seconds:6.1f} s  {memory:4.0f} MB  {within} {goal} s and "
+          f"{MEGABYTES} MB", flush=True)
 
 
 def main(folder):
@@ -101,8 +112,9 @@ def main(folder):
     told("`j .` with default settings", ("why", *default), 6)
     told("30 M rows, 3,000 writes", ("output", *output), 12)
     told("the same", ("why", *output, "--output", "2000:0"), 12)
-    for what, log in (("1 M rows of a hang", hang), (lua_words, lua), ("`j .` with default settings", default),
-                      ("30 M rows, 3,000 writes", output), ("an interval of 10 M rows", long_one)):
+    for what, log in (("1 M rows of a hang", hang), (lua_words, lua),
+                      ("`j .` with default settings", default), ("30 M rows, 3,000 writes", output),
+                      ("an interval of 10 M rows", long_one)):
         told(what, ("bucket", *log), 3)
         told("the same", ("race", *log), 3)
 

@@ -1,14 +1,24 @@
 """Writes the looping program that a number generates, as `demo` runs it, to standard output.
 
-guest.py NUMBER: an executable for RV32IMA (ELF, "ELF Header" and "Program Header") with a segment of 260
-code words at 0x10000 and a page of zeroes at 0x20000.
+guest.py NUMBER: an executable for RV32IMA (ELF, "ELF Header" and "Program Header") with a segment
+of 260 code words at 0x10000 and a page of zeroes at 0x20000.
 """
 
 import struct
 import sys
 
-T1, T2, S0, S1, A0 = 6, 7, 8, 9, 10
-LOAD, STORE, AMO, OP, OP_IMM, LUI, JAL = 0x03, 0x23, 0x2F, 0x33, 0x13, 0x37, 0x6F
+T1 = 6
+T2 = 7
+S0 = 8
+S1 = 9
+A0 = 10
+LOAD = 0x03
+STORE = 0x23
+AMO = 0x2F
+OP = 0x33
+OP_IMM = 0x13
+LUI = 0x37
+JAL = 0x6F
 
 
 def immediate(code, funct3, rd, rs1, imm):
@@ -38,7 +48,8 @@ def slot(drawn):
 
 
 def code(state):
-    words = [0x20 << 12 | S0 << 7 | LUI, immediate(OP_IMM, 1, S1, A0, 8), registers(0, 0, S1, S1, S0)]
+    words = [0x20 << 12 | S0 << 7 | LUI, immediate(OP_IMM, 1, S1, A0, 8),
+             registers(0, 0, S1, S1, S0)]
     for _ in range(256):
         state = (state * 6364136223846793005 + 1442695040888963407) % 2**64
         words.append(slot(state >> 33))

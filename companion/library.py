@@ -1,4 +1,5 @@
-"""A recording for scripts of one's own: rows, the fault, states at any place, histories and calls. docs/PYTHON.md shows it."""
+"""A recording for scripts of one's own: rows, the fault, states at any place, histories and calls.
+docs/PYTHON.md shows it."""
 from __future__ import annotations
 
 import contextlib
@@ -26,7 +27,8 @@ EVERY = 1 << 40
 
 @dataclass(frozen=True)
 class Fault:
-    """The fault that a hart ended with: the count of its instruction, its name and its value, as `list` has them."""
+    """The fault that a hart ended with: the count of its instruction, its name and its value, as
+    `list` has them."""
     hart: int
     count: int
     name: str
@@ -34,8 +36,8 @@ class Fault:
 
 
 class Stored(NamedTuple):
-    """A store to a variable: hart and count, the part of the variable, its value before and after as text, the place and the
-    calls over it, innermost first."""
+    """A store to a variable: hart and count, the part of the variable, its value before and after
+    as text, the place and the calls over it, innermost first."""
     hart: int
     at: int
     part: str
@@ -45,8 +47,8 @@ class Stored(NamedTuple):
 
 
 class Called(NamedTuple):
-    """A call: hart and count, its arguments as text, its result, how long it ran, and from where. The result is None if there
-    is none, `rows` if it didn't return."""
+    """A call: hart and count, its arguments as text, its result, how long it ran, and from where.
+    The result is None if there is none, `rows` if it didn't return."""
     hart: int
     at: int
     arguments: dict[str, str]
@@ -56,7 +58,8 @@ class Called(NamedTuple):
 
 
 class Passed(NamedTuple):
-    """A pass of a line: hart and count, and {expression: its value as text} before the line's first instruction."""
+    """A pass of a line: hart and count, and {expression: its value as text} before the line's first
+    instruction."""
     hart: int
     at: int
     values: dict[str, str]
@@ -66,7 +69,9 @@ class State:
     """What a hart is about to do at a count, and what is known then."""
 
     def __init__(self, recording: Recording, hart: int, place: int) -> None:
-        self.recording, self.hart, self.place = recording, hart, place
+        self.recording = recording
+        self.hart = hart
+        self.place = place
 
     def session(self) -> Session:
         """The session, at this place."""
@@ -93,18 +98,21 @@ class State:
         return found if len(found) == size else None
 
     def variable(self, name: str) -> Any:
-        """A C variable or a part of it: a number, bytes of letters, a list or a dict; None if it isn't known."""
+        """A C variable or a part of it: a number, bytes of letters, a list or a dict; None if it
+        isn't known."""
         variable = variable_of(self.recording.asked.named, name)
         found = self.read(variable.address, variable.size)
         return None if found is None else python_value(variable.type, found)
 
 
 class Recording:
-    """A log and the program that it is of. Use it by `with`, or call `close`. `names` is the same program with names, if ELF was
-    stripped; with `rows` only about so many of the last rows are read."""
+    """A log and the program that it is of. Use it by `with`, or call `close`. `names` is the same
+    program with names, if ELF was stripped; with `rows` only about so many of the last rows are
+    read."""
 
     def __init__(self, log: str, elf: str, names: str = "", rows: int = EVERY) -> None:
-        self.files, self.given = (log, elf), {"--rows": str(rows), **({"--names": names} if names else {})}
+        self.files = (log, elf)
+        self.given = {"--rows": str(rows), **({"--names": names} if names else {})}
         self.opened = contextlib.ExitStack()
 
     def __enter__(self) -> Recording:
@@ -126,7 +134,8 @@ class Recording:
     @property
     def fault(self) -> Optional[Fault]:
         ends = self.asked.log.ends
-        return next((Fault(hart, end.count, end.reason, end.value) for hart, end in sorted(ends.items()) if is_fault(end.reason)), None)
+        return next((Fault(hart, end.count, end.reason, end.value)
+                     for hart, end in sorted(ends.items()) if is_fault(end.reason)), None)
 
     def rows(self) -> Iterator[Row]:
         """Each row, in the order of `joint`. None is kept."""
@@ -134,14 +143,16 @@ class Recording:
 
     @cached_property
     def session(self) -> Session:
-        return self.opened.enter_context(closing(begin_session(self.asked.log, self.asked.elf.name)))
+        return self.opened.enter_context(closing(begin_session(self.asked.log,
+                                                               self.asked.elf.name)))
 
     @cached_property
     def memory(self) -> Memory:
         return Memory(self.asked.log, self.asked.elf, self.session)
 
     def at(self, hart: int, count: int) -> State:
-        """The state before a hart's instruction of a count. It takes some 90 bytes for each row on the way."""
+        """The state before a hart's instruction of a count. It takes some 90 bytes for each row on
+        the way."""
         self.session.go_to_row(At(hart, count))
         return State(self, hart, self.session.at)
 
@@ -149,16 +160,21 @@ class Recording:
         """The last stores to a variable."""
         asked = self.asked
         found = history_of(asked, variable_of(asked.named, name), last)
-        return [Stored(entry.hart, entry.count, entry.part, entry.old, entry.new, asked.places.chain(entry.pcs, 4)) for entry in found.told]
+        return [Stored(entry.hart, entry.count, entry.part, entry.old, entry.new,
+                       asked.places.chain(entry.pcs, 4)) for entry in found.told]
 
     def calls(self, function: str, last: int = 100) -> List[Called]:
         """The last calls of a function."""
         asked = self.asked
         found = calls_of(asked, function_of(asked.named, function), last)
-        return [Called(int(call.hart), call.count, said_arguments(asked, call), said_result(asked, call), call.rows,
-                       asked.places.where(call.source)) for call in found.told]
+        return [Called(int(call.hart), call.count, said_arguments(asked, call),
+                       said_result(asked, call), call.rows, asked.places.where(call.source))
+                for call in found.told]
 
-    def at_line(self, line: str, *expressions: str, condition: str = "", last: int = TOLD) -> List[Passed]:
-        """The values of C expressions at the last passes of FILE:LINE, or at those of them at which a condition isn't 0."""
+    def at_line(self, line: str, *expressions: str, condition: str = "",
+                last: int = TOLD) -> List[Passed]:
+        """The values of C expressions at the last passes of FILE:LINE, or at those of them at which
+        a condition isn't 0."""
         found = passes_of(self.asked, line, expressions, condition, last)
-        return [Passed(entry.hart, entry.count, dict(zip(expressions, entry.values))) for entry in found.told]
+        return [Passed(entry.hart, entry.count, dict(zip(expressions, entry.values)))
+                for entry in found.told]

@@ -31,7 +31,8 @@ def number(data, at, width):
 
 
 def check_settings(values):
-    harts, (form, sets2, ways2) = values[0], values[8:]
+    harts = values[0]
+    form, sets2, ways2 = values[8:]
     second = form == 2
     for (field, low, high), value in zip(FIELDS, values):
         good = low <= value <= high and not (field == 5 and value % 4096)
@@ -68,22 +69,29 @@ def good_block(data, seal, n, left):
 
 def blocks_of(data, n):
     """The good blocks from the end back, first to last, and the place at which the first begins."""
-    seal, blocks, left, end = digest(data[:104]), [], 0, len(data)
+    seal = digest(data[:104])
+    blocks = []
+    left = 0
+    end = len(data)
     while (size := good_block(data[:end], seal, n, left)) is not None:
         start = end - size - 48
         blocks.insert(0, (data[start:start + size], number(data, end - 48, 8), end))
-        left, end = left + size, start
+        left = left + size
+        end = start
     return blocks, end
 
 
 def records_of(data, form):
-    at, records = 0, []
+    at = 0
+    records = []
     while at < len(data):
         size = SIZES.get(data[at], 0)
         good = size and at + size <= len(data)
         if good and data[at] == 6:
-            reason, value = data[at + 10], number(data, at + 11, 4)
-            good = reason in REASONS and not (reason in (1, 5, 6, 7, 18) and value) and (reason != 6 or form == 2)
+            reason = data[at + 10]
+            value = number(data, at + 11, 4)
+            good = (reason in REASONS and not (reason in (1, 5, 6, 7, 18) and value)
+                    and (reason != 6 or form == 2))
         refuse(good, "BadRecord", at)
         records.append(data[at:at + size])
         at += size
@@ -92,21 +100,25 @@ def records_of(data, form):
 
 def check_cut(blocks, records, dropped):
     """The records are cut into blocks from the front, each of at most 4,096 bytes."""
-    before, left = dropped, list(records)
+    before = dropped
+    left = list(records)
     for body, said, end in blocks:
         cut = b""
         count = 0
         while count < len(left) and len(cut) + len(left[count]) <= 4096:
-            cut, count = cut + left[count], count + 1
+            cut = cut + left[count]
+            count += 1
         refuse(body == cut and said == before % 2**64, "BadBlock", end)
-        before, left = before + count, left[count:]
+        before = before + count
+        left = left[count:]
 
 
 def read(data, salvage):
     version, form, dropped, n = head_of(data, salvage)
     if version == 1:
         refuse(n == len(data) - 124, "LengthDiffers", n, len(data) - 124)
-        refuse(digest(data[:-32]) == data[-32:], "DigestDiffers", data[-32:].hex(), digest(data[:-32]).hex())
+        refuse(digest(data[:-32]) == data[-32:], "DigestDiffers",
+               data[-32:].hex(), digest(data[:-32]).hex())
         return dropped, records_of(data[92:-32], form)
     found = digest(data[:104])
     refuse(found == data[104:136], "DigestDiffers", data[104:136].hex(), found.hex())
@@ -126,11 +138,13 @@ def read(data, salvage):
 def said(record):
     hart = record[1]
     if record[0] == 1:
-        return "Header %d interval %d ic %d pc %08x" % ((hart,) + struct.unpack_from("<QQI", record, 2))
+        return "Header %d interval %d ic %d pc %08x" % ((hart,)
+                                                        + struct.unpack_from("<QQI", record, 2))
     if record[0] == 2:
         return "FirstLoad %d skip %d value %08x" % ((hart,) + struct.unpack_from("<II", record, 2))
     if record[0] == 5:
-        return "Edge %d ic %d from %d from_ic %d" % ((hart,) + struct.unpack_from("<QBQ", record, 2))
+        return "Edge %d ic %d from %d from_ic %d" % ((hart,)
+                                                     + struct.unpack_from("<QBQ", record, 2))
     if record[0] == 6:
         ic, reason, value = struct.unpack_from("<QBI", record, 2)
         return "End %d ic %d %s %08x" % (hart, ic, REASONS[reason], value)
@@ -144,12 +158,14 @@ def main(words):
         print("\n".join(said(record) for record in records))
         return
     headers = [record for record in records if record[0] == 1]
-    print("ok records", len(records), "intervals", len(headers), "dropped", dropped, "bytes", sum(map(len, records)))
+    print("ok records", len(records), "intervals", len(headers), "dropped", dropped,
+          "bytes", sum(map(len, records)))
     for at, record in enumerate(records):
         if record[0] == 1:
             end = next(r for r in records[at:] if r[0] == 6 and r[1] == record[1])
             ic, reason, value = struct.unpack_from("<QBI", end, 2)
-            print(record[1], number(record, 2, 8), number(record, 10, 8), ic, REASONS[reason], "%08x" % value)
+            print(record[1], number(record, 2, 8), number(record, 10, 8), ic,
+                  REASONS[reason], "%08x" % value)
 
 
 if __name__ == "__main__":

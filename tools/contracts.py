@@ -81,15 +81,18 @@ def name_of(owner: str) -> str:
 def functions_of(lines: List[str]) -> Contracts:
     """The contracts of a source: of its public functions, and of all in a trait or its impl."""
     found: Contracts = {}
-    owner, is_open = "", False
+    owner = ""
+    is_open = False
     for at, line in enumerate(lines):
         owned = OWNER.match(line)
         if owned:
             owner = name_of(owned[2])
             is_open = owned[1] == "trait" or " for " in line
         elif line.startswith("}"):
-            owner, is_open = "", False
-        function, ghost = FUNCTION.match(line), GHOST.match(line)
+            owner = ""
+            is_open = False
+        function = FUNCTION.match(line)
+        ghost = GHOST.match(line)
         if function and (function[2] or is_open):
             found[f"{owner}: fn {function[3]}"] = contract_at(lines, at, function[1])
         elif ghost and owner:
@@ -113,7 +116,8 @@ def contracts_of(commit: str) -> Contracts:
 
 def moved(name: str, item: List[str], new: Contracts) -> bool:
     """Whether another file of the crate has it, word for word."""
-    crate, bare = name.split("/")[1], name.partition(" ")[2]
+    crate = name.split("/")[1]
+    bare = name.partition(" ")[2]
     there = (other for other in new if other.split("/")[1] == crate)
     return any(other.partition(" ")[2] == bare and new[other] == item for other in there)
 

@@ -3,8 +3,9 @@
 
 tools/definitions.py [TOP]    the page of the sources at TOP, at first its own
 
-The crates stand in the order of crates.txt, under its headings. The files of a crate stand in the order of its `pub mod`
-lines. A definition's comment is the lines of `--` right before it; if one has none, that is said, and the status is 1.
+The crates stand in the order of crates.txt, under its headings. The files of a crate stand in the
+order of its `pub mod` lines. A definition's comment is the lines of `--` right before it; if one
+has none, that is said, and the status is 1.
 """
 import pathlib
 import re
@@ -12,12 +13,13 @@ import sys
 
 HEAD = """# Definitions
 
-The words of the contracts: each public definition of `crates/*/specs`, with the comment that it has there. The crates
-stand in the order of `crates.txt`, the lowest layer first. `docs/INTERNALS.md` says how to read a contract, and has the
-field's word for each of ours.
+The words of the contracts: each public definition of `crates/*/specs`, with the comment that it has
+there. The crates stand in the order of `crates.txt`, the lowest layer first. `docs/INTERNALS.md`
+says how to read a contract, and has the field's word for each of ours.
 
-A *law* is a statement about all values; a function of the crate has it as its contract, and so proves it. A file
-`Examples` has theorems about worked examples: to read them is the quickest way to see what a definition means.
+A *law* is a statement about all values; a function of the crate has it as its contract, and so
+proves it. A file `Examples` has theorems about worked examples: to read them is the quickest way to
+see what a definition means.
 """
 DEFINITION = re.compile(r"(?:(?:abbrev|unfoldable) )?pub (?:(?:record|data) )?([^\s:(]+)")
 NO_DEFINITION = ("mod", "use")
@@ -35,7 +37,8 @@ def crate_layers(top):
 
 
 def spec_files(folder, library):
-    """The files that the `pub mod` lines of a library name, in that order, each before those below it."""
+    """The files that the `pub mod` lines of a library name, in that order, each before those below
+    it."""
     for name in re.findall(r"(?m)^pub mod (\w+)$", library.read_text(encoding="utf-8")):
         file = folder / f"{name}.antt"
         yield file
@@ -45,13 +48,16 @@ def spec_files(folder, library):
 
 def definitions_in(file):
     """The comment at a file's head, and its definitions, each as name and comment."""
-    head, definitions, comment = None, [], []
+    head = None
+    definitions = []
+    comment = []
     for line in file.read_text(encoding="utf-8").splitlines():
         if line.startswith("--"):
             comment.append(line[2:].strip())
             continue
         if head is None:
-            head, comment = " ".join(comment), []
+            head = " ".join(comment)
+            comment = []
         found = DEFINITION.match(line)
         if found and found[1] not in NO_DEFINITION:
             definitions.append((found[1], " ".join(comment)))
@@ -62,7 +68,8 @@ def definitions_in(file):
 def crate_purpose(crate):
     """The first paragraph at the head of a crate's source."""
     lines = []
-    root = next(path for path in (crate / "src" / "lib.rt", crate / "src" / "main.rt") if path.exists())
+    root = next(path
+                for path in (crate / "src" / "lib.rt", crate / "src" / "main.rt") if path.exists())
     for line in root.read_text(encoding="utf-8").splitlines():
         text = re.sub(r"^//!? ?", "", line)
         if not line.startswith("//") or not text.strip():
@@ -72,7 +79,8 @@ def crate_purpose(crate):
 
 
 def sentence(text):
-    """A comment as text of the page: what Markdown would take for its own marks is escaped, and it ends."""
+    """A comment as text of the page: what Markdown would take for its own marks is escaped, and it
+    ends."""
     parts = re.split(r"(`[^`]*`)", text)
     parts[::2] = [re.sub(r"([<*\[]|(?<!\w)_)(?=\w)", r"\\\1", part) for part in parts[::2]]
     text = "".join(parts)
@@ -118,7 +126,8 @@ def page(top):
 def main(words):
     if len(words) > 1:
         sys.exit(__doc__)
-    top = pathlib.Path(words[0]).resolve() if words else pathlib.Path(__file__).resolve().parent.parent
+    top = (pathlib.Path(words[0]).resolve() if words
+           else pathlib.Path(__file__).resolve().parent.parent)
     sys.stdout.write(page(top))
 
 

@@ -3,11 +3,12 @@
 
 tools/mutants.py CRATE..
 
-The gate tries several mutants of a crate in one check, since a check takes some eight seconds whatever it looks at. Each
-is a change of another function (in a crate of laws, of a statement). Such an edit has a line `# NAME` before each
-change. If a contract became weaker, the refusal of one change could hide that another is not refused any more. So
-call this for a crate whose contracts or mutants have changed: it makes an edit of each change, in a copy of the
-checkout, and calls `rt must-fail` there.
+The gate tries several mutants of a crate in one check, since a check takes some eight seconds
+whatever it looks at. Each is a change of another function (in a crate of laws, of a statement).
+Such an edit has a line `# NAME` before each change. If a contract became weaker, the refusal of one
+change could hide that another is not refused any more. So call this for a crate whose contracts or
+mutants have changed: it makes an edit of each change, in a copy of the checkout, and calls `rt
+must-fail` there.
 """
 import pathlib
 import re
@@ -23,7 +24,8 @@ HEADING = re.compile(r"# ([a-z0-9_]+)$")
 def parts_of(edit):
     """The changes of an edit, each with its name; an edit with no headings is one change."""
     lines = edit.read_text(encoding="utf-8").splitlines()
-    parts, name = {}, edit.stem
+    parts = {}
+    name = edit.stem
     for line in lines:
         heading = HEADING.match(line)
         if heading:
@@ -45,7 +47,8 @@ def part(folder):
 def main(crates):
     lacking = [name for name in crates if not (TOP / "crates" / name / "must-fail").is_dir()]
     if not crates or lacking:
-        print(f"tools/mutants.py: {' '.join(lacking) or 'name a crate'}: it takes names of crates with mutants", file=sys.stderr)
+        print(f"tools/mutants.py: {' '.join(lacking) or 'name a crate'}: "
+              "it takes names of crates with mutants", file=sys.stderr)
         return 2
     with tempfile.TemporaryDirectory(prefix="mutants-") as room:
         copy = pathlib.Path(room) / "checkout"

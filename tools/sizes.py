@@ -3,12 +3,14 @@
 
 tools/sizes.py [TOP] [CRATE..]    all crates of its own checkout, if none is named
 tools/sizes.py --layers [TOP]     sums by the layers of crates.txt
-tools/sizes.py --renew [TOP]      writes them into the table of docs/INTERNALS.md, whose last column has code+specs+proofs
+tools/sizes.py --renew [TOP]      writes them into the table of docs/INTERNALS.md, whose last column
+                                  has code+specs+proofs
 
 It prints by crate, or by layer:
 
 - functions; their clauses (requires and ensures), and the characters of these
-- lines of code without clauses, imports of clauses, comments and empty lines; lines of comments in the code
+- lines of code without clauses, imports of clauses, comments and empty lines; lines of comments in
+  the code
 - lines of specs/ and of proofs/
 - calls of `refuse`, which tell an error at the place that finds it
 - matches of an error that only pass it on, though `?` would do
@@ -22,7 +24,8 @@ CLAUSE = re.compile(r"^[ \t]*((?:requires|ensures)\*?\b[^\n{]*\{)", re.M)
 FUNCTION = re.compile(r"^\s*(?:pub(?:\([a-z]+\))? )?fn ", re.M)
 CALL_OF_REFUSE = re.compile(r"(?<!fn )\brefuse\(")
 PASSED_ON = re.compile(r"Err\((\w+)\) => (?:return )?Err\(\1\)")
-HEADS = ("functions", "clauses", "chars", "code", "comments", "specs", "proofs", "refuse", "Err=>Err")
+HEADS = ("functions", "clauses", "chars", "code", "comments", "specs", "proofs",
+         "refuse", "Err=>Err")
 
 
 def clauses_of(text):
@@ -31,7 +34,8 @@ def clauses_of(text):
     for found in CLAUSE.finditer(text):
         if places and found.start() < places[-1][1]:
             continue
-        end, depth = found.end(), 1
+        end = found.end()
+        depth = 1
         while depth:
             depth += {"{": 1, "}": -1}.get(text[end], 0)
             end += 1
@@ -41,7 +45,8 @@ def clauses_of(text):
 
 def without(text, places):
     """A text without these parts."""
-    kept, at = [], 0
+    kept = []
+    at = 0
     for start, end in places:
         kept.append(text[at:start])
         at = end
@@ -49,7 +54,8 @@ def without(text, places):
 
 
 def lines_below(folder, ending):
-    return sum(len(file.read_text(encoding="utf-8").splitlines()) for file in folder.rglob(f"*{ending}"))
+    return sum(len(file.read_text(encoding="utf-8").splitlines())
+               for file in folder.rglob(f"*{ending}"))
 
 
 def sizes_of(crate):
@@ -87,7 +93,8 @@ def summed(rows):
 
 def by_layer_of(top, sizes):
     """The sums of each layer, by the sizes of its crates."""
-    return [(layer, summed(sizes[name] for name in crates)) for layer, crates in layers_of(top).items()]
+    return [(layer, summed(sizes[name] for name in crates))
+            for layer, crates in layers_of(top).items()]
 
 
 def renewed(text, layers):
@@ -99,7 +106,9 @@ def renewed(text, layers):
 
 
 def main(words):
-    top, by_layer, renews = OWN, "--layers" in words or "--renew" in words, "--renew" in words
+    top = OWN
+    by_layer = "--layers" in words or "--renew" in words
+    renews = "--renew" in words
     words = [word for word in words if word not in ("--layers", "--renew")]
     if words and pathlib.Path(words[0]).is_dir():
         top = pathlib.Path(words.pop(0))

@@ -1,4 +1,5 @@
-"""What `read` calls filled: no row tells these bytes, but the log has the registers at each call."""
+"""What `read` calls filled: no row tells these bytes, but the log has the registers at each
+call."""
 from __future__ import annotations
 
 import bisect
@@ -38,7 +39,8 @@ class Fills:
         for filled in reversed(self.ranges[kept:]):
             self.places_of[filled].pop()
             if not self.places_of[filled]:
-                del self.places_of[filled], self.different[bisect.bisect_left(self.different, filled)]
+                del self.places_of[filled], self.different[bisect.bisect_left(self.different,
+                                                                              filled)]
         del self.places[kept:], self.ranges[kept:]
 
     def take(self, place: int, filled: Range) -> None:
@@ -55,7 +57,8 @@ class Fills:
             found = text.find(CALL_WORD, at, high)
             while found >= 0:
                 begin, behind = line_around(text, found)
-                place, at = place + text.count(b"\n", at, begin), begin
+                place = place + text.count(b"\n", at, begin)
+                at = begin
                 head = bytes(text[begin:found])
                 when = int(hart_of(head)), count_of(head)
                 if when in self.reads:
@@ -68,10 +71,13 @@ class Fills:
         low, high = (bisect.bisect_left(self.places, place) for place in (start, end))
         return zip(self.places[low:high], self.ranges[low:high])
 
-    def find(self, first: int, length: int, start: int, end: int, last: bool = False) -> Optional[int]:
-        """The place of the first call in [start, end), or the last, that filled one of these bytes."""
+    def find(self, first: int, length: int, start: int, end: int,
+             last: bool = False) -> Optional[int]:
+        """The place of the first call in [start, end), or the last, that filled one of these
+        bytes."""
         self.look(end)
-        low, high = (bisect.bisect_left(self.different, Range(address, 0)) for address in (first - LONGEST_CALL, first + length))
+        low, high = (bisect.bisect_left(self.different, Range(address, 0))
+                     for address in (first - LONGEST_CALL, first + length))
         found = []
         for filled in self.different[low:high]:
             if first < filled.address + filled.length:

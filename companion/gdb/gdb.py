@@ -48,8 +48,8 @@ serve as both. The session begins where the log does; `continue` goes to the cra
 Companions show; the program proves. What gdb shows is what `debug` says of the log, and ELF of memory that
 nothing touched."""
 FORM = "gdb LOG ELF [--run] [--names ELF] [--at HART:IC] [--rows N] [--port N] [--end] [--trace]"
-SETTINGS = [word for said in ("debuginfod enabled off", "architecture riscv:rv32", "remotetimeout 60", "confirm off",
-                                                   "auto-connect-native-target off")
+SETTINGS = [word for said in ("debuginfod enabled off", "architecture riscv:rv32",
+                              "remotetimeout 60", "confirm off", "auto-connect-native-target off")
             for word in ("-iex", f"set {said}")]
 LOOPBACK = "127.0.0.1"
 
@@ -68,20 +68,25 @@ def wait_for_gdb(port: int) -> socket.socket:
 
 def told_of_rows(log: Log) -> str:
     """How far back the rows that are loaded lead."""
-    first = ", ".join(f"hart {hart} from count {number(each.start)}" for hart, each in sorted(log.first_intervals().items()))
+    first = ", ".join(f"hart {hart} from count {number(each.start)}"
+                      for hart, each in sorted(log.first_intervals().items()))
     return f"the last {number(log.rows())} rows are loaded, {first}; {MORE_ROWS}"
 
 
 def run_gdb(log_name: str, elf_name: str, options: Mapping[str, str]) -> NoReturn:
-    """Becomes gdb, which starts the bridge. It begins at the end of the log, unless it is asked for a place."""
-    gdb, here = gdb_path(), os.path.dirname(os.path.abspath(__file__))
+    """Becomes gdb, which starts the bridge. It begins at the end of the log, unless it is asked for
+    a place."""
+    gdb = gdb_path()
+    here = os.path.dirname(os.path.abspath(__file__))
     if not gdb:
         raise CompanionError(f"no gdb is here; Debian has it in {PACKAGE}", NOT_BUILT)
     place = ["--at", options["--at"]] if "--at" in options else ["--end"]
     names = ["--names", options["--names"]] if "--names" in options else []
-    bridge = [sys.executable, os.path.dirname(here), "gdb", *place, *names, "--rows", options.get("--rows", str(FIRST_ROWS)), "--", log_name, elf_name]
+    bridge = [sys.executable, os.path.dirname(here), "gdb", *place, *names, "--rows",
+              options.get("--rows", str(FIRST_ROWS)), "--", log_name, elf_name]
     words = [gdb, "-q", *SETTINGS, "-x", os.path.join(here, "inside_gdb.py"), "-ex",
-             "target extended-remote | " + shlex.join(bridge), "--", options.get("--names", elf_name)]
+             "target extended-remote | " + shlex.join(bridge), "--",
+             options.get("--names", elf_name)]
     os.execvp(gdb, words)
 
 
@@ -98,7 +103,8 @@ def main(words: list[str]) -> int:
         session = ends_with.enter_context(closing(begin_session(log, elf_name)))
         peer = ends_with.enter_context(wait_for_gdb(port)) if port is not None else None
         ends = (peer.fileno(),) * 2 if peer else (sys.stdin.fileno(), sys.stdout.fileno())
-        server = Server(session, Memory(log, asked.elf, session), PacketStream(*ends, "--trace" in options),
+        server = Server(session, Memory(log, asked.elf, session),
+                        PacketStream(*ends, "--trace" in options),
                         Questions(log_name, elf_name, options.get("--names", "")), Reasons(log))
         with contextlib.suppress(EOFError, ConnectionError):    # gdb has left
             server.begin("--end" in options, at)

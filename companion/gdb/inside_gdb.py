@@ -1,5 +1,5 @@
-"""Runs inside of a gdb that `gdb --run` starts: after `monitor` gdb looks at registers and memory again, and at the hart that
-`monitor goto` went to."""
+"""Runs inside of a gdb that `gdb --run` starts: after `monitor` gdb looks at registers and memory
+again, and at the hart that `monitor goto` went to."""
 from __future__ import annotations
 
 import importlib

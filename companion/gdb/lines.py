@@ -35,11 +35,16 @@ def line_around(text: bytearray, at: int) -> tuple[int, int]:
     return text.rfind(b"\n", 0, at) + 1, text.index(b"\n", at)
 
 
-def nearest(text: bytearray, patterns: Sequence[Pattern], low: int, high: int, last: bool) -> Optional[int]:
-    """The beginning of the first line in text[low:high] that a pattern matches, or of the last one."""
-    best, find = None, text.rfind if last else text.find
+def nearest(text: bytearray, patterns: Sequence[Pattern], low: int, high: int,
+            last: bool) -> Optional[int]:
+    """The beginning of the first line in text[low:high] that a pattern matches, or of the last
+    one."""
+    best = None
+    find = text.rfind if last else text.find
     for word, accepts in patterns:
-        at, first, end = find(word, low, high), low, high
+        at = find(word, low, high)
+        first = low
+        end = high
         while at >= 0:
             begin, behind = line_around(text, at)
             if accepts(bytes(text[begin:behind])):
@@ -78,7 +83,8 @@ class KeptLines:
     def nearest(self, piece: int, number: int) -> Near:
         """The known line of a piece that is the nearest."""
         known = [near for near in self.near if near.piece == piece]
-        known += [Near(piece, self.starts[piece], 0), Near(piece, self.end_of(piece), len(self.texts[piece]))]
+        known += [Near(piece, self.starts[piece], 0),
+                  Near(piece, self.end_of(piece), len(self.texts[piece]))]
         return min(known, key=lambda near: abs(near.number - number))
 
     def offset(self, piece: int, number: int) -> int:
@@ -101,12 +107,14 @@ class KeptLines:
         while start < end:
             piece = self.piece_of(start)
             behind = min(end, self.end_of(piece))
-            yield Part(start, behind, self.texts[piece], self.offset(piece, start), self.offset(piece, behind))
+            yield Part(start, behind, self.texts[piece], self.offset(piece, start),
+                       self.offset(piece, behind))
             start = behind
 
     def line(self, number: int) -> bytes:
         piece = self.piece_of(number)
-        text, offset = self.texts[piece], self.offset(piece, number)
+        text = self.texts[piece]
+        offset = self.offset(piece, number)
         return bytes(text[offset:text.index(b"\n", offset)])
 
     def text(self, start: int, end: int) -> bytes:
@@ -123,14 +131,16 @@ class KeptLines:
         self.count = number
         self.near.clear()
 
-    def find(self, patterns: Sequence[Pattern], start: int, end: int, last: bool = False) -> Optional[int]:
+    def find(self, patterns: Sequence[Pattern], start: int, end: int,
+             last: bool = False) -> Optional[int]:
         """The first line in [start, end), or the last, that a pattern matches, else None."""
         parts = list(self.parts(start, end))
         for part in reversed(parts) if last else parts:
             found = nearest(part.text, patterns, part.low, part.high, last)
             if found is not None:
                 count = part.text.count
-                number = part.end - count(b"\n", found, part.high) if last else part.start + count(b"\n", part.low, found)
+                number = (part.end - count(b"\n", found, part.high) if last
+                          else part.start + count(b"\n", part.low, found))
                 self.near.append(Near(self.piece_of(number), number, found))
                 return number
         return None

@@ -3,14 +3,15 @@
 A byte is known in one of four cases, tried in this order:
 
 1. It lies in a read-only segment: no run can change it.
-2. A row so far loaded or stored its word, and no `read` call has filled the word since: `debug` tells it.
-3. The log has dropped nothing, and no row so far touched the word, nor did a `read` call fill a byte
-   of it. Then it is what it was at the start: the ELF's bytes, or 0 outside of the segments.
-4. All harts have a state, and of the known steps ahead the first that touches its word loads it: then
-   the word has that value already.
+2. A row so far loaded or stored its word, and no `read` call has filled the word since: `debug`
+   tells it.
+3. The log has dropped nothing, and no row so far touched the word, nor did a `read` call fill a
+   byte of it. Then it is what it was at the start: the ELF's bytes, or 0 outside of the segments.
+4. All harts have a state, and of the known steps ahead the first that touches its word loads it:
+   then the word has that value already.
 
-Case 3 needs the whole past, so it holds for no log that has dropped records. Case 4 needs all steps in
-between, so no hart may be in an interval that the log has lost. All else is unknown.
+Case 3 needs the whole past, so it holds for no log that has dropped records. Case 4 needs all steps
+in between, so no hart may be in an interval that the log has lost. All else is unknown.
 """
 from __future__ import annotations
 
@@ -30,22 +31,26 @@ BATCH = 256  # words asked for at once
 BLOCK = 4096  # steps that are looked through at once
 AHEAD = 16 * BLOCK
 MOST_BLOCKS = 64  # that are kept
-ACCESS = re.compile(rb"\| (load|store) ([0-9a-f]{8})=([0-9a-f]{8})")  # of a row's two, the load is first
+# Of a row's two, the load is first
+ACCESS = re.compile(rb"\| (load|store) ([0-9a-f]{8})=([0-9a-f]{8})")
 
 
 class Future:
     """What the known steps ahead tell: the first access to each word in blocks of them."""
 
     def __init__(self, steps: Steps, fills: Fills) -> None:
-        self.steps, self.fills = steps, fills
-        self.blocks: dict[tuple[int, int], dict[int, Optional[int]]] = {}  # by ends: by word, what its first access tells
+        self.steps = steps
+        self.fills = fills
+        # By ends: by word, what its first access tells
+        self.blocks: dict[tuple[int, int], dict[int, Optional[int]]] = {}
         steps.when_cut.append(self.forget)
 
     def forget(self, place: int) -> None:
         self.blocks = {ends: block for ends, block in self.blocks.items() if ends[1] <= place}
 
     def look(self, start: int, end: int) -> dict[int, Optional[int]]:
-        """By word its value before [start, end), if the first step that touches it loads it, else None."""
+        """By word its value before [start, end), if the first step that touches it loads it, else
+        None."""
         found: dict[int, Optional[int]] = {}
         fills = dict(self.fills.between(start, end))
         for place, line in enumerate(self.steps.lines.text(start, end).split(b"\n"), start):
@@ -82,10 +87,14 @@ class Memory:
     """Reads memory for gdb, which takes what is known from an address on."""
 
     def __init__(self, log: Log, elf: Elf, session: Session) -> None:
-        self.session, self.elf, self.fills = session, elf, Fills(session.steps, log)
-        self.size, self.is_whole = log.memory, log.dropped == 0
+        self.session = session
+        self.elf = elf
+        self.fills = Fills(session.steps, log)
+        self.size = log.memory
+        self.is_whole = log.dropped == 0
         self.future = Future(session.steps, self.fills)
-        self.borders = sorted({border for part in elf.parts for border in (part.address, part.address + part.size)})
+        self.borders = sorted({border for part in elf.parts
+                               for border in (part.address, part.address + part.size)})
 
     def first_words(self, first: int, count: int) -> list[int]:
         """The words from an aligned address on as they were at first: the ELF's, or 0 outside."""
@@ -110,7 +119,8 @@ class Memory:
             at = first + 4 * len(found)
             wanted = min(BATCH, count - len(found))
             addresses = range(at, at + 4 * wanted, 4)
-            told, first_words = self.session.words(addresses), self.first_words(at, wanted)
+            told = self.session.words(addresses)
+            first_words = self.first_words(at, wanted)
             for address, value, before in zip(addresses, told, first_words):
                 if value is None and self.is_untouched(address):
                     value = before
@@ -133,7 +143,8 @@ class Memory:
 
     def read(self, address: int, length: int) -> bytes:
         """As many bytes as are known from an address on, at most so many."""
-        got, end = b"", min(address + length, 1 << 32)
+        got = b""
+        end = min(address + length, 1 << 32)
         while address + len(got) < end:
             at = address + len(got)
             limit = self.next_border(at, end)

@@ -15,18 +15,23 @@ from .session import Session
 from .stops import Stop, WatchStops
 from .target import INTERRUPTED, TRAP
 
-FIRST_CHUNK, LARGEST_CHUNK = 64, 1 << 16  # steps between two looks at gdb
+# Steps between two looks at gdb
+FIRST_CHUNK = 64
+LARGEST_CHUNK = 1 << 16
 SINGLE_STEPS = 16  # of a range before it continues by chunks: a step too far takes a way back
-BEGIN, END = "replaylog:begin;", "replaylog:end;"
+BEGIN = "replaylog:begin;"
+END = "replaylog:end;"
 
 
 class Motion:
-    """Moves a session, and says where and why it stopped. `alone` says that only the stops of the hart
-    that moves count: gdb fails if a thread reports that it hasn't resumed."""
+    """Moves a session, and says where and why it stopped. `alone` says that only the stops of the
+    hart that moves count: gdb fails if a thread reports that it hasn't resumed."""
 
     def __init__(self, session: Session, points: Points, watch_stops: WatchStops,
                  is_interrupted: Callable[[], bool]) -> None:
-        self.session, self.points, self.watch_stops = session, points, watch_stops
+        self.session = session
+        self.points = points
+        self.watch_stops = watch_stops
         self.is_interrupted = is_interrupted
         self.steps = session.steps
         self.told: Optional[int] = None  # the place where a fault was reported
@@ -81,13 +86,16 @@ class Motion:
 
     def go(self, hart: int, alone: bool) -> Stop:
         """All harts continue, this one first; or this one alone, and what it waits for."""
-        session, only = self.session, hart if alone else None
+        session = self.session
+        only = hart if alone else None
         stop = self.before_move(hart, alone, False)
         if stop:
             return stop
-        if session.at < self.steps.count and self.steps.hart_at(session.at) != hart and session.left(hart):
+        if (session.at < self.steps.count and self.steps.hart_at(session.at) != hart
+                and session.left(hart)):
             self.steps.cut(session.at)
-        start, chunk = session.at, FIRST_CHUNK
+        start = session.at
+        chunk = FIRST_CHUNK
         while True:
             stop = self.met(start, self.steps.count, start, only)
             if stop:
@@ -103,8 +111,11 @@ class Motion:
                 return Stop(hart, INTERRUPTED)
 
     def step(self, hart: int, alone: bool, low: int = 0, high: int = 0) -> Stop:
-        """A hart takes one row, or rows while its pc is in [low, high); others what it waits for."""
-        session, only, moved = self.session, hart if alone else None, 0
+        """A hart takes one row, or rows while its pc is in [low, high); others what it waits
+        for."""
+        session = self.session
+        only = hart if alone else None
+        moved = 0
         if self.watch_stops.is_stepped_over(False):
             return Stop(hart)
         stop = self.before_move(hart, alone, False)
@@ -145,7 +156,8 @@ class Motion:
 
     def step_back(self, hart: int, alone: bool) -> Stop:
         """Goes back over a hart's latest row, and over what the others did since."""
-        at, only = self.session.at, hart if alone else None
+        at = self.session.at
+        only = hart if alone else None
         if self.watch_stops.is_stepped_over(True):
             return Stop(hart)
         stop = self.before_move(hart, alone, True)

@@ -26,7 +26,9 @@ class PacketStream:
     """Receives and sends packets."""
 
     def __init__(self, source: int, sink: int, traced: bool = False) -> None:
-        self.source, self.sink, self.traced = source, sink, traced
+        self.source = source
+        self.sink = sink
+        self.traced = traced
         self.data = bytearray()
         self.acknowledges = True
         self.asked = False  # gdb has asked for an interruption, and no move has heard it
@@ -66,7 +68,8 @@ class PacketStream:
             if self.skip():
                 end = self.data.find(b"#")
                 if 0 <= end <= len(self.data) - 3:
-                    body, digits = bytes(self.data[1:end]), bytes(self.data[end + 1:end + 3])
+                    body = bytes(self.data[1:end])
+                    digits = bytes(self.data[end + 1:end + 3])
                     del self.data[:end + 3]
                     return body, digits
                 if len(self.data) > LONGEST:
@@ -96,5 +99,6 @@ class PacketStream:
         if select.select([self.source], [], [], 0)[0]:
             self.fill()
         self.skip()
-        asked, self.asked = self.asked, False
+        asked = self.asked
+        self.asked = False
         return asked

@@ -8,7 +8,8 @@ from .fills import Fills
 from .lines import Pattern
 from .steps import Steps
 
-SIZES = {b"sb": 1, b"lb": 1, b"lbu": 1, b"sh": 2, b"lh": 2, b"lhu": 2}  # all other accesses are of words
+# All other accesses are of words
+SIZES = {b"sb": 1, b"lb": 1, b"lbu": 1, b"sh": 2, b"lh": 2, b"lhu": 2}
 FEW = 16  # watched bytes up to which each address is looked for by itself, which is faster
 
 # By gdb's number of the kind: its name, and the accesses that it watches.
@@ -48,7 +49,8 @@ class Points:
     """What is set. Setting a point twice, or taking out one that isn't set, changes nothing."""
 
     def __init__(self, steps: Steps, fills: Fills) -> None:
-        self.steps, self.fills = steps, fills
+        self.steps = steps
+        self.fills = fills
         self.breaks: set[int] = set()
         self.watches: list[Watch] = []
 
@@ -62,10 +64,11 @@ class Points:
             (self.watches.append if is_set else self.watches.remove)(watch)
         return kind in WATCH_KINDS
 
-    def next_break(self, start: int, end: int, last: bool = False, only: Optional[int] = None) -> Optional[Hit]:
+    def next_break(self, start: int, end: int, last: bool = False,
+                   only: Optional[int] = None) -> Optional[Hit]:
         """The first place in [start, end) at which a hart is before a breakpoint's row, or the
-        last one; of all harts, or of one only. A hart that comes to a breakpoint behind its last row
-        has no row there: its arrival is such a place too."""
+        last one; of all harts, or of one only. A hart that comes to a breakpoint behind its last
+        row has no row there: its arrival is such a place too."""
         def at_pc(pc: int) -> Pattern:
             def accepts(line: bytes) -> bool:
                 return pc_of(line) == pc and only in (None, int(hart_of(line)))
@@ -91,7 +94,8 @@ class Points:
             for address in range(max(0, watch.first - 3), watch.first + watch.length):
                 yield Pattern(b"%s%08x=" % (word, address), accepts)
 
-    def next_fill(self, watch: Watch, start: int, end: int, last: bool, only: Optional[int]) -> Optional[int]:
+    def next_fill(self, watch: Watch, start: int, end: int, last: bool,
+                  only: Optional[int]) -> Optional[int]:
         """The same of what `read` calls filled, which are writes."""
         if watch.kind not in WRITE_KINDS:
             return None
@@ -101,7 +105,8 @@ class Points:
                 return found
             start, end = (start, found) if last else (found + 1, end)
 
-    def next_watch(self, start: int, end: int, last: bool = False, only: Optional[int] = None) -> Optional[int]:
+    def next_watch(self, start: int, end: int, last: bool = False,
+                   only: Optional[int] = None) -> Optional[int]:
         """The first step in [start, end) that makes a watched access, or the last one."""
         patterns = [pattern for watch in self.watches for pattern in self.patterns(watch, only)]
         found = [self.steps.lines.find(patterns, start, end, last)]

@@ -21,9 +21,12 @@ class DebugProcess:
         self.start()
 
     def start(self) -> None:
-        self.process = start(self.words, stdin=subprocess.PIPE, stdout=subprocess.PIPE, stderr=subprocess.PIPE, bufsize=0)
+        self.process = start(self.words, stdin=subprocess.PIPE, stdout=subprocess.PIPE,
+                             stderr=subprocess.PIPE, bufsize=0)
         assert self.process.stdin and self.process.stdout and self.process.stderr
-        self.commands, self.answers, self.refusals = self.process.stdin, self.process.stdout, self.process.stderr
+        self.commands = self.process.stdin
+        self.answers = self.process.stdout
+        self.refusals = self.process.stderr
         self.sent = 0
         self.hart = 0
 
@@ -53,7 +56,8 @@ class DebugProcess:
             self.commands.write(text)
         except OSError:
             self.fail()
-        pieces, tail = [], b"\n"
+        pieces = []
+        tail = b"\n"
         while not tail.endswith(b"\n?\n"):
             piece = os.read(self.answers.fileno(), 1 << 20)
             if not piece:

@@ -18,7 +18,9 @@ from .session import Session
 from .stops import Stop, WatchStops
 from .threads import Threads
 
-REFUSED, UNREADABLE, OK = "E01", "E0e", "OK"
+REFUSED = "E01"
+UNREADABLE = "E0e"
+OK = "OK"
 NOT_WRITTEN = f"E.{READ_ONLY}"  # gdb shows it of a register, and of memory doesn't
 KILLED = "X09"  # by SIGKILL
 UNSUPPORTED = ""  # the protocol's answer to a packet that isn't known
@@ -29,7 +31,8 @@ MOST_ROWS = 100
 MONITOR_HELP = ("monitor where: the next count and address of each hart\n"
                 "monitor last N: the last N rows before this place\n"
                 "monitor at: how many steps lead here\n"
-                "monitor goto HART:COUNT: goes there\n" + "".join(f"{said}\n" for said in WORDS.values()))
+                "monitor goto HART:COUNT: goes there\n"
+                + "".join(f"{said}\n" for said in WORDS.values()))
 PIECE = PACKET_SIZE // 4  # bytes of a long answer to `monitor` that go at once
 
 
@@ -57,20 +60,26 @@ class Server:
 
     def __init__(self, session: Session, memory: Memory, stream: PacketStream, questions: Questions,
                  reasons: Reasons) -> None:
-        self.session, self.memory, self.stream = session, memory, stream
-        self.questions, self.reasons = questions, reasons
+        self.session = session
+        self.memory = memory
+        self.stream = stream
+        self.questions = questions
+        self.reasons = reasons
         self.points = Points(session.steps, memory.fills)
         watch_stops = WatchStops(session, self.points, memory.read)
         self.motion = Motion(session, self.points, watch_stops, stream.is_interrupted)
         self.threads = Threads(session)
-        self.last_stop, self.is_extended = "", False
+        self.last_stop = ""
+        self.is_extended = False
         self.is_killed = False  # by gdb's `kill`, up to its `run`
         self.moved = ""     # the hart that `monitor goto` went to, until gdb has asked for it
-        self.whole, self.begun = self.packets(), self.packets_with_more()
+        self.whole = self.packets()
+        self.begun = self.packets_with_more()
 
     def packets(self) -> dict[str, Callable[[], str]]:
         """What answers packets that are one word."""
-        threads, motion = self.threads, self.motion
+        threads = self.threads
+        motion = self.motion
         return {
             "?": lambda: KILLED if self.is_killed else self.last_stop,
             "g": self.registers,
@@ -87,7 +96,8 @@ class Server:
         }
 
     def packets_with_more(self) -> dict[str, Callable[[str], str]]:
-        """What answers packets that begin so; it is given the rest. Signals to pass on are ignored."""
+        """What answers packets that begin so; it is given the rest. Signals to pass on are
+        ignored."""
         whole = self.packets()
         return {
             "qSupported": lambda _: FEATURES,
@@ -122,10 +132,12 @@ class Server:
 
     def registers(self) -> str:
         values = self.session.registers(self.threads.shown)
-        return target.words_in_hex(values) if values else target.unknown_in_hex(len(target.REGISTERS))
+        return (target.words_in_hex(values) if values
+                else target.unknown_in_hex(len(target.REGISTERS)))
 
     def register(self, text: str) -> str:
-        number, values = number_of(text), self.session.registers(self.threads.shown)
+        number = number_of(text)
+        values = self.session.registers(self.threads.shown)
         if number >= len(target.REGISTERS):
             return REFUSED
         return target.words_in_hex([values[number]]) if values else target.unknown_in_hex(1)
@@ -157,17 +169,20 @@ class Server:
     def monitor(self, text: str) -> str:
         words = words_of(bytes.fromhex(text).decode())
         if words == ["moved"]:
-            said, self.moved = self.moved, ""
+            said = self.moved
+            self.moved = ""
         elif words == ["where"]:
             said = self.session.where()
         elif words == ["at"]:
             said = f"at {self.session.at} of {self.session.steps.count} known\n"
         elif len(words) == 2 and words[0] == "last" and words[1].isdecimal():
-            said = self.session.steps.lines.text(max(0, self.session.at - min(int(words[1]), MOST_ROWS)), self.session.at).decode()
+            said = self.session.steps.lines.text(
+                max(0, self.session.at - min(int(words[1]), MOST_ROWS)), self.session.at).decode()
         elif len(words) == 2 and words[0] == "goto":
             said = self.goto(words[1])
         else:
-            said = self.questions.answer(words[0], words[1:]) if words and words[0] in WORDS else MONITOR_HELP
+            said = (self.questions.answer(words[0], words[1:]) if words and words[0] in WORDS
+                    else MONITOR_HELP)
         told = said.encode()
         for at in range(0, len(told) - PIECE, PIECE):
             self.stream.send("O" + told[at:at + PIECE].hex())
@@ -180,8 +195,10 @@ class Server:
         except CompanionError as error:
             return f"{error}\n"
         self.motion.leave()
-        self.threads.shown, self.moved = place.hart, str(place.hart)
-        return f"at {text}\n" if self.is_extended else f"at {text}; type: maintenance flush register-cache\n"
+        self.threads.shown = place.hart
+        self.moved = str(place.hart)
+        return (f"at {text}\n" if self.is_extended
+                else f"at {text}; type: maintenance flush register-cache\n")
 
     # What moves
 

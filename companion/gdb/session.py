@@ -1,4 +1,5 @@
-"""A session of `debug`: where all harts stand, the steps that are known, and the way to any of them."""
+"""A session of `debug`: where all harts stand, the steps that are known, and the way to any of
+them."""
 from __future__ import annotations
 
 import re
@@ -16,8 +17,8 @@ STUCK = 15  # the program's status of a log whose harts wait for each other
 
 
 class Position(NamedTuple):
-    """The place of a hart: its count, its pc, which is None if the log has lost its present interval, and the instruction
-    that it has to wait for."""
+    """The place of a hart: its count, its pc, which is None if the log has lost its present
+    interval, and the instruction that it has to wait for."""
     at: int
     pc: Optional[int]
     waits: Optional[At]
@@ -59,7 +60,8 @@ class Session:
         return self.before_positions(self.process.ask_of(hart, f"step {count}", "where"))
 
     def before_positions(self, text: bytes) -> bytes:
-        """Takes the lines of `where` at an answer's end, one for each hart; returns those before."""
+        """Takes the lines of `where` at an answer's end, one for each hart; returns those
+        before."""
         cut = len(text) - 1
         for _ in self.positions:
             cut = text.rindex(b"\n", 0, cut)
@@ -71,11 +73,13 @@ class Session:
 
     def live(self) -> list[int]:
         """The harts that have a state."""
-        return [hart for hart, position in sorted(self.positions.items()) if position and position.pc is not None]
+        return [hart for hart, position in sorted(self.positions.items())
+                if position and position.pc is not None]
 
     def all_have_states(self) -> bool:
         """Whether no hart is in an interval that the log has lost."""
-        return all(position is None or position.pc is not None for position in self.positions.values())
+        return all(position is None or position.pc is not None
+                   for position in self.positions.values())
 
     def pc(self, hart: int) -> Optional[int]:
         position = self.positions.get(hart)
@@ -88,7 +92,8 @@ class Session:
             return None
         if hart not in self.known_registers:
             found = re.findall(rb"=([0-9a-f]{8})", self.process.ask_of(hart, "regs"))
-            self.known_registers[hart] = [int(value, 16) for value in found] if len(found) == 32 else None
+            self.known_registers[hart] = ([int(value, 16) for value in found] if len(found) == 32
+                                          else None)
         values = self.known_registers[hart]
         return values + [pc] if values else None
 
@@ -128,13 +133,15 @@ class Session:
             if hart in passed:
                 raise CompanionError("replay: the harts of this log wait for each other", STUCK)
             passed.add(hart)
-            hart, count = position.waits.hart, position.waits.count
+            hart = position.waits.hart
+            count = position.waits.count
             position = self.positions[hart]
             most = count + 1 - (position.at if position else 0)
         lost = position is None or position.pc is None
         return hart, 1 if lost else max(1, min(most, self.left(hart), MOST))
 
-    def next_steps(self, first: Optional[int], most: int, alone: bool = False) -> Optional[tuple[int, int]]:
+    def next_steps(self, first: Optional[int], most: int,
+                   alone: bool = False) -> Optional[tuple[int, int]]:
         """Which hart steps next, and how often, or None where nothing is left. The first hart
         does, or what it waits for; if it has none left and isn't alone, the lowest other hart."""
         others = [] if alone else [hart for hart in sorted(self.intervals) if hart != first]
@@ -147,15 +154,16 @@ class Session:
         """Takes steps of a hart that aren't known. Nothing is known behind them."""
         taken = self.steps.add(hart, self.step(hart, count))
         if not taken:
-            raise CompanionError(f"replay: hart {hart} takes no step, as this log says that it does", STUCK)
+            raise CompanionError(f"replay: hart {hart} takes no step, "
+                                 "as this log says that it does", STUCK)
         self.at += taken
         pc = self.pc(hart)
         if pc is not None and not self.left(hart):
             self.steps.arrivals[hart] = self.at, pc
 
     def advance(self, hart: int, most: int) -> None:
-        """A hart takes at most so many steps, or another one takes what this one waits for. If other
-        steps are known to come next, they are forgotten."""
+        """A hart takes at most so many steps, or another one takes what this one waits for. If
+        other steps are known to come next, they are forgotten."""
         if self.at < self.steps.count and self.steps.hart_at(self.at) != hart:
             self.steps.cut(self.at)
         if self.at < self.steps.count:
@@ -181,23 +189,31 @@ class Session:
             self.at += count
 
     def go_to_row(self, place: At) -> None:
-        """Goes to the place before the instruction of a count of a hart. CompanionError if the session doesn't have it."""
-        hart, count = place.hart, place.count
+        """Goes to the place before the instruction of a count of a hart. CompanionError if the
+        session doesn't have it."""
+        hart = place.hart
+        count = place.count
         if hart not in self.intervals:
-            raise CompanionError(f"hart {hart} has no rows here; harts are {', '.join(map(str, sorted(self.intervals)))}", NO_INTERVAL)
-        first, last = self.intervals[hart][0].start, self.intervals[hart][-1].end
+            raise CompanionError(f"hart {hart} has no rows here; harts are "
+                                 f"{', '.join(map(str, sorted(self.intervals)))}", NO_INTERVAL)
+        first = self.intervals[hart][0].start
+        last = self.intervals[hart][-1].end
         if not first <= count <= last:
-            raise CompanionError(f"hart {hart} has counts {first} to {last} here, not {count}; more rows need --rows N", NO_INTERVAL)
+            raise CompanionError(f"hart {hart} has counts {first} to {last} here, not {count}; "
+                                 "more rows need --rows N", NO_INTERVAL)
         before = b"%d %d " % (hart, count)
         pattern = Pattern(b" %d " % count, lambda line: line.startswith(before))
         known = self.steps.lines.find([pattern], 0, self.steps.count)
         if known is None:
             self.go_to(self.steps.count)
         while known is None:
-            position, begin = self.positions[hart], self.at
+            position = self.positions[hart]
+            begin = self.at
             if position is not None and position.pc is not None and position.at == count:
                 return
-            turn = self.next_steps(hart, min(MOST, max(1, count - (position.at if position else 0))), alone=True)
+            turn = self.next_steps(hart,
+                                   min(MOST, max(1, count - (position.at if position else 0))),
+                                   alone=True)
             if turn is None:
                 raise CompanionError(f"hart {hart} doesn't come to count {count}", NO_INTERVAL)
             self.extend(*turn)

@@ -1,4 +1,5 @@
-"""The steps that are known: rows, ends of intervals and passes, in the order in which they were taken.
+"""The steps that are known: rows, ends of intervals and passes, in the order in which they were
+taken.
 
 A *place* is a number of steps: those before it have been taken, and the next one has its number.
 """
@@ -21,8 +22,10 @@ class Steps:
         self.spans: list[int] = []  # the places where spans begin
         self.owners: list[int] = []  # their harts
         self.ends: dict[int, list[int]] = {}  # by hart: the places of its `end` lines
-        self.arrivals: dict[int, tuple[int, int]] = {}  # by hart that has no step left: the place, and its pc
-        self.when_cut: list[Callable[[int], None]] = []  # are told the place from which on steps are forgotten
+        # By hart that has no step left: the place, and its pc
+        self.arrivals: dict[int, tuple[int, int]] = {}
+        # Are told the place from which on steps are forgotten
+        self.when_cut: list[Callable[[int], None]] = []
 
     @property
     def count(self) -> int:
@@ -39,9 +42,11 @@ class Steps:
                 self.spans.append(self.count)
                 self.owners.append(hart)
             ends = self.ends.setdefault(hart, [])
-            place, at = self.count, 0
+            place = self.count
+            at = 0
             for end in re.finditer(rb"^end ", text, re.M) if b"end " in text else ():
-                place, at = place + text.count(b"\n", at, end.start()), end.start()
+                place = place + text.count(b"\n", at, end.start())
+                at = end.start()
                 ends.append(place)
             self.lines.add(text, count)
         return count
@@ -57,7 +62,8 @@ class Steps:
         del self.spans[kept:], self.owners[kept:]
         for places in self.ends.values():
             del places[bisect.bisect_left(places, place):]
-        self.arrivals = {hart: arrival for hart, arrival in self.arrivals.items() if arrival[0] <= place}
+        self.arrivals = {hart: arrival
+                         for hart, arrival in self.arrivals.items() if arrival[0] <= place}
 
     def ends_before(self, hart: int, place: int) -> int:
         """How many intervals of a hart have ended before a place."""
@@ -79,12 +85,14 @@ class Steps:
 
     def row_before(self, hart: int, place: int) -> Optional[int]:
         """The place of a hart's latest row before a place, or None."""
-        span, end = bisect.bisect_left(self.spans, place) - 1, place
+        span = bisect.bisect_left(self.spans, place) - 1
+        end = place
         while span >= 0:
             begin = self.spans[span]
             if self.owners[span] == hart:
                 found = next((at for at in range(end - 1, begin - 1, -1) if self.is_row(at)), None)
                 if found is not None:
                     return found
-            span, end = span - 1, begin
+            span -= 1
+            end = begin
         return None

@@ -48,18 +48,22 @@ class WatchStops:
     """The stops at watched accesses. `read` gives memory as gdb sees it."""
 
     def __init__(self, session: Session, points: Points, read: Callable[[int, int], bytes]) -> None:
-        self.session, self.points, self.read = session, points, read
+        self.session = session
+        self.points = points
+        self.read = read
         self.owed: Optional[Owed] = None
 
     def at_access(self, place: int, back: bool) -> Stop:
         """The stop at an access: before it, or behind it on the way back."""
-        hart, behind = self.session.steps.hart_at(place), place if back else place + 1
+        hart = self.session.steps.hart_at(place)
+        behind = place if back else place + 1
         return self.tell(Owed(hart, self.changed(place), back, behind))
 
     def changed(self, place: int) -> list[Watch]:
         """The watchpoints that the row at a place meets. If there are several, those whose bytes it
         changes, and those that tell each access: gdb would look at the others in vain."""
-        watches, here = self.points.met_at(place), self.session.at
+        watches = self.points.met_at(place)
+        here = self.session.at
         if len(watches) == 1:
             return watches
         values = []
@@ -85,7 +89,8 @@ class WatchStops:
 
     def due(self, hart: int, alone: bool, back: bool) -> Optional[Stop]:
         """The stop of a move that doesn't begin, since watchpoints are owed at this place."""
-        owed, at = self.owed, self.session.at
+        owed = self.owed
+        at = self.session.at
         if not owed or owed.back == back and abs(at - owed.place) == 1:
             return None                         # gdb's step over the access comes next
         self.owed = None

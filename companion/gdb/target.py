@@ -9,11 +9,16 @@ from ..recording.instruction import NAMES
 REGISTERS = [*NAMES, "pc"]
 TYPES = {"ra": "code_ptr", "sp": "data_ptr", "pc": "code_ptr"}
 
-TRAP, INTERRUPTED = 5, 2  # gdb's numbers of signals
-ILLEGAL, MISALIGNED, OUTSIDE = 4, 10, 11
+# Gdb's numbers of signals
+TRAP = 5
+INTERRUPTED = 2
+ILLEGAL = 4
+MISALIGNED = 10
+OUTSIDE = 11
 FAULT_SIGNALS = {
     "Illegal": ILLEGAL, "Breakpoint": TRAP,
-    "FetchOutside": OUTSIDE, "LoadOutside": OUTSIDE, "StoreOutside": OUTSIDE, "StoreReadOnly": OUTSIDE,
+    "FetchOutside": OUTSIDE, "LoadOutside": OUTSIDE, "StoreOutside": OUTSIDE,
+    "StoreReadOnly": OUTSIDE,
     "TargetMisaligned": MISALIGNED, "LoadMisaligned": MISALIGNED, "StoreMisaligned": MISALIGNED,
 }
 

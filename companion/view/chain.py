@@ -1,7 +1,8 @@
 """The chain of values as boxes: the ways from the end back to the rows of the first suspects.
 
-Each row of the search has one row that needed it, so the ways form a tree. Rows that follow each other without a fork,
-of one hart and line, are one box; a store that a load got, and the way to an address, begin a new one."""
+Each row of the search has one row that needed it, so the ways form a tree. Rows that follow each
+other without a fork, of one hart and line, are one box; a store that a load got, and the way to an
+address, begin a new one."""
 from __future__ import annotations
 
 from typing import Any, Iterable, Mapping, NamedTuple, Sequence
@@ -10,11 +11,13 @@ from ..recording.cut import told_in
 from ..why.history import History
 from .data import Page
 
-FIRST_BOXES, LAST_BOXES = 5, 2          # of a long way without a fork; between them a box says how many rows are left out
+FIRST_BOXES = 5  # of a long way without a fork
+LAST_BOXES = 2  # between them a box says how many rows are left out
 
 
 class Way(NamedTuple):
-    """A suspect that the history leads to: the row there, the guilty row, and the suspect's kind."""
+    """A suspect that the history leads to: the row there, the guilty row, and the suspect's
+    kind."""
     row: int
     guilty: int
     kind: str
@@ -26,7 +29,9 @@ class Box:
     __slots__ = ("rows", "how", "next", "skipped")
 
     def __init__(self, row: int, how: str) -> None:
-        self.rows, self.how, self.skipped = [row], how, 0
+        self.rows = [row]
+        self.how = how
+        self.skipped = 0
         self.next: list[Box] = []
 
 
@@ -34,7 +39,8 @@ class Ways:
     """The tree of rows: of each row those that it needed, and how each of these was needed."""
 
     def __init__(self, page: Page, search: History, goals: Sequence[int]) -> None:
-        self.page, self.goals = page, set(goals)
+        self.page = page
+        self.goals = set(goals)
         self.needed: dict[int, list[int]] = {}
         self.how: dict[int, str] = {}
         for goal in goals:
@@ -53,13 +59,15 @@ class Ways:
     def follows(self, row: int, following: int) -> bool:
         """Whether a row stands in the same box as the one that needed it."""
         how = self.how[following]
-        return (how == "value" or how == self.how[row] == "address") and self.place_key(row) == self.place_key(following)
+        return ((how == "value" or how == self.how[row] == "address")
+                and self.place_key(row) == self.place_key(following))
 
     def box(self, row: int) -> Box:
         """The box that begins with a row, with all boxes behind it."""
         first = box = Box(row, self.how[row])
         while True:
-            row, behind = box.rows[-1], self.needed.get(box.rows[-1], [])
+            row = box.rows[-1]
+            behind = self.needed.get(box.rows[-1], [])
             if len(behind) == 1 and row not in self.goals:
                 if self.follows(row, behind[0]):
                     box.rows.append(behind[0])
@@ -78,17 +86,22 @@ class Ways:
         if len(way) > FIRST_BOXES + LAST_BOXES + 1:
             cut = way[FIRST_BOXES:-LAST_BOXES]
             gap = Box(cut[0].rows[0], "value")
-            gap.skipped, gap.next = sum(len(box.rows) for box in cut), [way[-LAST_BOXES]]
+            gap.skipped = sum(len(box.rows) for box in cut)
+            gap.next = [way[-LAST_BOXES]]
             way[FIRST_BOXES - 1].next = [gap]
         return first
 
 
 class Boxes:
-    """The nodes and links of the page. A fork's first way continues in its column, each other takes a new one."""
+    """The nodes and links of the page. A fork's first way continues in its column, each other takes
+    a new one."""
 
-    def __init__(self, page: Page, suspects: Mapping[int, Sequence[tuple[int, Way]]], origins: Mapping[int, str]) -> None:
+    def __init__(self, page: Page, suspects: Mapping[int, Sequence[tuple[int, Way]]],
+                 origins: Mapping[int, str]) -> None:
         """Both are by rows: suspects with their ranks, and origins in words."""
-        self.page, self.suspects, self.origins = page, suspects, origins
+        self.page = page
+        self.suspects = suspects
+        self.origins = origins
         self.nodes: list[dict[str, Any]] = []
         self.links: list[list[Any]] = []
         self.columns = 1
@@ -96,21 +109,26 @@ class Boxes:
     def add(self, box: Box, column: int, depth: int) -> int:
         """Adds a box and all behind it; gives its number."""
         row = box.rows[-1]
-        at = self.put(column, depth, **({"skipped": box.skipped} if box.skipped else self.row(row, len(box.rows))))
+        at = self.put(column, depth,
+                      **({"skipped": box.skipped} if box.skipped else self.row(row, len(box.rows))))
         places = iter(range(len(box.next) + 9))
         for following in box.next:
-            self.links.append([at, self.add(following, self.column(column, next(places)), depth + 1), following.how])
+            self.links.append([at, self.add(following, self.column(column, next(places)),
+                                            depth + 1), following.how])
         if box.skipped:
             return at
         for rank, (_, guilty, kind) in self.suspects.get(row, ()):
             if guilty == row:
                 self.nodes[at]["rank"] = self.nodes[at]["rank"] or rank
-            else:                               # the guilty row isn't of the history: only what it did is known
-                self.links.append([at, self.put(self.column(column, next(places)), depth + 1, rank, **self.row(guilty, 1)), kind])
+            else:
+                # The guilty row isn't of the history: only what it did is known
+                self.links.append([at, self.put(self.column(column, next(places)), depth + 1, rank,
+                                                **self.row(guilty, 1)), kind])
         if row in self.origins:
             load = self.page.rows.access(row)
             loaded = f"{load.address:08x}={load.value:08x}"
-            self.links.append([at, self.put(self.column(column, next(places)), depth + 1, said=self.origins[row], told=loaded), "before"])
+            self.links.append([at, self.put(self.column(column, next(places)), depth + 1,
+                                            said=self.origins[row], told=loaded), "before"])
         return at
 
     def put(self, column: int, depth: int, rank: int = 0, **more: Any) -> int:
@@ -127,12 +145,14 @@ class Boxes:
         return told_in(self.page.rows.text(row))[-1]
 
     def row(self, row: int, rows: int) -> dict[str, Any]:
-        return {"place": self.page.place_of_row(row), "rows": rows, "at": self.page.point(row), "told": self.told(row)}
+        return {"place": self.page.place_of_row(row), "rows": rows,
+                "at": self.page.point(row), "told": self.told(row)}
 
 
-def chain_boxes(page: Page, history: History, suspects: Iterable[Way], origins: Mapping[int, str]) -> dict[str, Any]:
-    """{nodes, links} as the page's script reads them. `suspects` come likeliest first; `origins` is {row of a load that no row stored: where
-    its word came from}."""
+def chain_boxes(page: Page, history: History, suspects: Iterable[Way],
+                origins: Mapping[int, str]) -> dict[str, Any]:
+    """{nodes, links} as the page's script reads them. `suspects` come likeliest first; `origins` is
+    {row of a load that no row stored: where its word came from}."""
     by_row: dict[int, list[tuple[int, Way]]] = {}
     for rank, way in enumerate(suspects, 1):
         by_row.setdefault(way.row, []).append((rank, way))

@@ -1,5 +1,5 @@
-"""What a page shows of a log as a whole: places, intervals, Edges, the functions along each hart, and a short order of
-turns."""
+"""What a page shows of a log as a whole: places, intervals, Edges, the functions along each hart,
+and a short order of turns."""
 from __future__ import annotations
 
 from typing import Any, Iterator, NamedTuple, Optional, Union
@@ -11,7 +11,8 @@ from ..recording.rows import Rows
 from ..recording.story import Story, Teller
 from ..recording.trace import Trace
 
-EDGES = 6000            # in the page at most: a half of them evenly over all rows, the other half at the end
+# In the page at most: a half of them evenly over all rows, the other half at the end
+EDGES = 6000
 EDGE_STEPS = 1500       # the even half takes its Edges from so many equal parts of the rows
 SEGMENTS = 2500         # switches of each hart in the page at most
 STRIP_SPOTS = 24000     # rows whose function is asked for, of all harts together
@@ -19,7 +20,8 @@ SOURCE_LENGTH = 90
 
 
 class PageEdge(NamedTuple):
-    """An Edge with the rows of both its accesses, 0 of one that was dropped, and 1 if it is of the even half."""
+    """An Edge with the rows of both its accesses, 0 of one that was dropped, and 1 if it is of the
+    even half."""
     hart: int
     at: int
     source: int
@@ -33,27 +35,33 @@ class Page:
     """Places and codes have numbers, so that each name stands in the page once."""
 
     def __init__(self, trace: Trace, places: Places, log: Log) -> None:
-        self.rows, self.calls, self.places, self.log = trace.rows, trace.calls, places, log
+        self.rows = trace.rows
+        self.calls = trace.calls
+        self.places = places
+        self.log = log
         self.place_known: dict[int, int] = {}
         self.place_list: list[list[Union[str, list[str]]]] = []
         self.code_known: dict[int, int] = {}
         self.code_list: list[tuple[int, str, int]] = []         # address, text and place of each
 
     def place(self, pc: int) -> int:
-        """The number of [function, file:line, text of the line, [function, file:line] it is inlined in..]."""
+        """The number of [function, file:line, text of the line, [function, file:line] it is inlined
+        in..]."""
         found = self.place_known.get(pc)
         if found is None:
             entry: list[Union[str, list[str]]] = ["", f"{pc:08x}", ""]
             frames = self.places.frames(pc)
             if frames:
-                entry = [frames[0].function, self.places.line(pc), self.places.source(pc)[:SOURCE_LENGTH]]
+                entry = [frames[0].function, self.places.line(pc),
+                         self.places.source(pc)[:SOURCE_LENGTH]]
                 entry += [[frame.function, f"{frame.file}:{frame.line}"] for frame in frames[1:]]
             found = self.place_known[pc] = len(self.place_list)
             self.place_list.append(entry)
         return found
 
     def around(self, place: int) -> tuple[int, list[str]]:
-        """The line of source at a place, the one before and the one behind, if the source is there; and the number of the first."""
+        """The line of source at a place, the one before and the one behind, if the source is there;
+        and the number of the first."""
         frame = self.places.innermost(list(self.place_known)[place])
         lines = self.places.sources.lines(frame.path) if frame.line else []
         first = max(1, frame.line - 1)
@@ -77,36 +85,45 @@ class Page:
         return self.place(self.rows.code_of(row).pc)
 
     def intervals(self) -> list[list[Any]]:
-        """Of each interval the hart, number, counts, reason and value of its end, its first row and the one behind its last."""
-        row_of, found = self.rows.row_of, []
+        """Of each interval the hart, number, counts, reason and value of its end, its first row and
+        the one behind its last."""
+        row_of = self.rows.row_of
+        found = []
         for each in self.log.intervals:
-            first, last = row_of(each.hart, each.start), row_of(each.hart, max(each.start, each.end - 1))
+            first = row_of(each.hart, each.start)
+            last = row_of(each.hart, max(each.start, each.end - 1))
             reason = "no end" if each.reason == NO_END else each.reason
-            found.append([each.hart, each.number, each.start, each.end, reason, f"{each.value:08x}", first, (last or first) + 1])
+            found.append([each.hart, each.number, each.start, each.end, reason, f"{each.value:08x}",
+                          first, (last or first) + 1])
         return found
 
     def segments(self) -> Iterator[tuple[list[int], list[int], int]]:
-        """Of each hart the counts and the rows at which it continues after another hart, and 1 if some are left out."""
+        """Of each hart the counts and the rows at which it continues after another hart, and 1 if
+        some are left out."""
         for number in range(self.log.harts):
             hart = self.rows.harts.get(number)
             step = max(1, -(-len(hart.begins) // SEGMENTS)) if hart else 1
-            yield (list(hart.counts[::step]), list(hart.begins[::step]), int(step > 1)) if hart else ([], [], 0)
+            yield ((list(hart.counts[::step]), list(hart.begins[::step]), int(step > 1)) if hart
+                   else ([], [], 0))
 
     def edges(self) -> list[PageEdge]:
         counts, from_counts, harts, sources = self.log.edges
-        total, row_of = len(counts), self.rows.row_of
+        total = len(counts)
+        row_of = self.rows.row_of
         rows = [row_of(harts[i], counts[i]) for i in range(total)]
         even = self.even_edges(rows)
         kept = even | set(range(max(0, total - EDGES + len(even)), total))
-        return [PageEdge(harts[i], counts[i], sources[i], from_counts[i], rows[i], row_of(sources[i], from_counts[i]),
-                         int(i in even)) for i in sorted(kept)]
+        return [PageEdge(harts[i], counts[i], sources[i], from_counts[i], rows[i],
+                         row_of(sources[i], from_counts[i]), int(i in even)) for i in sorted(kept)]
 
     def even_edges(self, rows: list[int]) -> set[int]:
-        """The places of Edges that are spread evenly over the rows: of each part at most two, to different harts."""
+        """The places of Edges that are spread evenly over the rows: of each part at most two, to
+        different harts."""
         if len(rows) <= EDGES // 2:
             return set(range(len(rows)))
         most = EDGES // 2 // EDGE_STEPS
-        harts, found = self.log.edges.harts, set()
+        harts = self.log.edges.harts
+        found = set()
         taken: dict[int, dict[int, int]] = {}
         for i, row in enumerate(rows):
             key = row * EDGE_STEPS // (self.rows.size + 1)
@@ -117,13 +134,14 @@ class Page:
         return found
 
     def strips(self) -> tuple[list[list[Any]], list[list[Any]]]:
-        """Of each hart its number, the count behind its last, and its functions as [first count, the function's number]..; and
-        of each function its name and its share in percent."""
+        """Of each hart its number, the count behind its last, and its functions as [first count,
+        the function's number]..; and of each function its name and its share in percent."""
         spots = list(self.strip_spots())
         found: list[list[Any]] = []
         numbers: dict[str, int] = {}
         shares: dict[str, int] = {}
-        self.places.fetch({self.rows.code_of(row).pc for _, _, rows in spots for _, row in rows if row})
+        self.places.fetch({self.rows.code_of(row).pc for _, _, rows in spots
+                           for _, row in rows if row})
         for hart, end, rows in spots:
             runs: list[list[int]] = []
             for count, row in rows:
@@ -137,19 +155,24 @@ class Page:
         return found, [[name, round(100 * shares[name] / total, 1)] for name in numbers]
 
     def strip_spots(self) -> Iterator[tuple[int, int, list[tuple[int, int]]]]:
-        """Of each hart the count behind its last, and for each of so many equal parts of it the first count and a row in the middle."""
+        """Of each hart the count behind its last, and for each of so many equal parts of it the
+        first count and a row in the middle."""
         rows = self.rows
         most = max(200, min(3000, STRIP_SPOTS // max(1, len(rows.last))))
         for hart, last_row in sorted(rows.last.items()):
-            first, last = rows.harts[hart].counts[0], rows.count_of(last_row)
+            first = rows.harts[hart].counts[0]
+            last = rows.count_of(last_row)
             spots = min(most, last - first + 1)
             size = (last - first + 1) / spots
-            yield hart, last + 1, [(int(first + i * size), rows.row_of(hart, int(first + (i + 0.5) * size))) for i in range(spots)]
+            yield (hart, last + 1,
+                   [(int(first + i * size), rows.row_of(hart, int(first + (i + 0.5) * size)))
+                    for i in range(spots)])
 
 
-def story_data(story: Optional[Story], teller: Teller, log: Log, rows: Rows) -> Optional[dict[str, Any]]:
-    """The order in words; of each piece its hart, its turns, its first count and the one behind its last, each with its row;
-    of each switch its lines. Nothing without BOOK."""
+def story_data(story: Optional[Story], teller: Teller, log: Log,
+               rows: Rows) -> Optional[dict[str, Any]]:
+    """The order in words; of each piece its hart, its turns, its first count and the one behind its
+    last, each with its row; of each switch its lines. Nothing without BOOK."""
     if story is None:
         return None
     behind: dict[int, int] = {}
@@ -158,8 +181,11 @@ def story_data(story: Optional[Story], teller: Teller, log: Log, rows: Rows) -> 
         stopped = story.switches[at].stopped if at < len(story.switches) else None
         is_last = all(piece.hart != hart for piece in story.pieces[at + 1:])
         begin = behind.get(hart, 0)
-        end = log.ends[hart].count if is_last and hart in log.ends else stopped.ic + 1 if stopped else begin
-        pieces.append([hart, turns, begin, rows.row_of(hart, begin), end, rows.row_of(hart, max(begin, end - 1))])
+        end = (log.ends[hart].count if is_last and hart in log.ends
+               else stopped.ic + 1 if stopped else begin)
+        pieces.append([hart, turns, begin, rows.row_of(hart, begin), end,
+                       rows.row_of(hart, max(begin, end - 1))])
         behind[hart] = end
-    return {"left": story.left, "order": story.order(), "pieces": pieces,
-            "switches": [[line.strip() for line in teller.lines(at, each)] for at, each in enumerate(story.switches, 1)]}
+    return {"left": story.left, "order": story.order(),
+            "pieces": pieces, "switches": [[line.strip() for line in teller.lines(at, each)]
+                                           for at, each in enumerate(story.switches, 1)]}

@@ -1,4 +1,5 @@
-"""Histories of variables and calls of functions for the page: of those that what it tells of begins with."""
+"""Histories of variables and calls of functions for the page: of those that what it tells of begins
+with."""
 from __future__ import annotations
 
 import contextlib
@@ -16,8 +17,13 @@ from ..why.analysis import Analysis
 from ..why.suspect import Suspect
 from .data import Page
 
-VARIABLES, FUNCTIONS, TOLD = 8, 6, 40   # are in the page at most, and so many of the last stores and calls of each
-LARGEST, ROWS_NEAR, RACES = 64, 60, 3    # bytes of a variable that is told as a whole; rows before the end; groups of races
+# Are in the page at most, and so many of the last stores and calls of each
+VARIABLES = 8
+FUNCTIONS = 6
+TOLD = 40
+LARGEST = 64  # bytes of a variable that is told as a whole
+ROWS_NEAR = 60  # rows before the end
+RACES = 3  # groups of races
 
 
 def variables_of(named: Elf, words: Iterable[int]) -> list[Variable]:
@@ -28,11 +34,13 @@ def variables_of(named: Elf, words: Iterable[int]) -> list[Variable]:
             break
         if not any(each.address < word + 4 and word < each.end for each in found.values()):
             symbol = named.object_at(word)
-            name = symbol.name if symbol and symbol.size <= LARGEST else named.data_name(word) or f"{word:08x}"
+            name = (symbol.name if symbol and symbol.size <= LARGEST
+                    else named.data_name(word) or f"{word:08x}")
             by_name = None
             with contextlib.suppress(CompanionError):       # a name that can't be asked of
                 by_name = variable_of(named, name)
-            found[word] = by_name if by_name and by_name.size <= LARGEST else variable_of(named, f"{word:08x}")
+            found[word] = (by_name if by_name and by_name.size <= LARGEST
+                           else variable_of(named, f"{word:08x}"))
     return list(found.values())
 
 
@@ -44,44 +52,57 @@ def calls_in(asked: Asked, names: Iterable[str]) -> Iterator[Calls]:
             continue
 
 
-def questions_data(page: Page, crash: Analysis, suspects: Sequence[Suspect], races: Optional[Races]) -> dict[str, Any]:
-    """Those of the words and functions that are looked at first: of suspects, of races, of the last rows before the end. One
-    reading of the rows gives all."""
-    rows, guilty = crash.rows, [row for item in suspects for row in (item.guilty, item.store, item.load) if row]
-    hart, last = rows.hart[crash.start], rows.count_of(crash.start)
-    near = filter(None, (rows.row_of(hart, count) for count in range(last, max(-1, last - ROWS_NEAR), -1)))
-    words = words_at(crash, guilty) + [group.word for group in (races.groups[:RACES] if races else ())] + words_at(crash, near)
-    functions = [name for row in [crash.start, *guilty] for name in
-                 [crash.places.function(rows.code_of(row).pc), *(frame.function for frame in crash.callers(row))]]
+def questions_data(page: Page, crash: Analysis, suspects: Sequence[Suspect],
+                   races: Optional[Races]) -> dict[str, Any]:
+    """Those of the words and functions that are looked at first: of suspects, of races, of the last
+    rows before the end. One reading of the rows gives all."""
+    rows = crash.rows
+    guilty = [row for item in suspects for row in (item.guilty, item.store, item.load) if row]
+    hart = rows.hart[crash.start]
+    last = rows.count_of(crash.start)
+    near = filter(None, (rows.row_of(hart, count)
+                         for count in range(last, max(-1, last - ROWS_NEAR), -1)))
+    words = words_at(crash, guilty) + [group.word for group in (races.groups[:RACES] if races
+                                                                else ())] + words_at(crash, near)
+    functions = [name for row in [crash.start, *guilty]
+                 for name in [crash.places.function(rows.code_of(row).pc),
+                              *(frame.function for frame in crash.callers(row))]]
     asked = Asked(crash.log, crash.elf, crash.named, crash.places)
     stacks = asked.stacks()
-    histories = [History(asked, stacks, variable, TOLD, False) for variable in variables_of(asked.named, words)]
+    histories = [History(asked, stacks, variable, TOLD, False)
+                 for variable in variables_of(asked.named, words)]
     calls = list(calls_in(asked, functions))
     every: list[Union[History, Calls]] = [*histories, *calls]
     read(asked.chunks(), stacks, *every)
     for each in calls:
         each.finish()
     add_texts(asked, [call for each in calls for call in each.told])
-    return {"most": TOLD, "leftOut": asked.left_out(), "variables": [history_data(page, found) for found in histories],
-            "functions": [{"name": found.function.name, "title": found.function.title(), "calls": found.total,
-                           "rows": [call_row(page, call, asked) for call in found.told]} for found in calls]}
+    return {"most": TOLD, "leftOut": asked.left_out(),
+            "variables": [history_data(page, found) for found in histories], "functions":
+            [{"name": found.function.name, "title": found.function.title(), "calls": found.total,
+              "rows": [call_row(page, call, asked) for call in found.told]} for found in calls]}
 
 
 def history_data(page: Page, found: History) -> dict[str, Any]:
     variable = found.variable
-    return {"title": variable.what(), "first": variable.address & ~3, "end": variable.end, "stores": found.total,
+    return {"title": variable.what(), "first": variable.address & ~3, "end": variable.end,
+            "stores": found.total,
             "rows": [[entry.hart, entry.count, variable.name + entry.part, entry.old,
-                      "bytes of a read call" if entry.fill else entry.new, page.place(entry.pcs[0])] for entry in found.told]}
+                      "bytes of a read call" if entry.fill else entry.new, page.place(entry.pcs[0])]
+                     for entry in found.told]}
 
 
 def words_at(crash: Analysis, rows: Iterable[int]) -> list[int]:
-    found = (access for row in rows for access in (crash.rows.load_of(row), crash.rows.store_of(row)))
+    found = (access for row in rows
+             for access in (crash.rows.load_of(row), crash.rows.store_of(row)))
     return [access.address & ~3 for access in found if access]
 
 
 def call_row(page: Page, call: Call, asked: Asked) -> list[Any]:
-    """Hart and count, the arguments, the result, how many rows it took, and the place that it came from, -1 if that isn't known."""
+    """Hart and count, the arguments, the result, how many rows it took, and the place that it came
+    from, -1 if that isn't known."""
     arguments = ", ".join(f"{name}={text}" for name, text in said_arguments(asked, call).items())
-    place = page.place(call.source or call.begin.address) if call.source or call.begin.inlined else -1
-    return [int(call.hart), call.count, "inlined" if call.begin.inlined else arguments, said_result(asked, call) or "",
-            -1 if call.rows is None else call.rows, place]
+    place = (page.place(call.source or call.begin.address) if call.source or call.begin.inlined
+             else -1)
+    return [int(call.hart), call.count, "inlined" if call.begin.inlined else arguments,
+            said_result(asked, call) or "", -1 if call.rows is None else call.rows, place]

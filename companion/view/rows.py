@@ -14,8 +14,8 @@ EDGES_WITH_ROWS = 400
 
 @dataclass
 class RowWindow:
-    """Rows of a hart that follow each other: the numbers of their codes, the ends of their texts, and the nodes of their
-    calls, as [offset, node] at each change."""
+    """Rows of a hart that follow each other: the numbers of their codes, the ends of their texts,
+    and the nodes of their calls, as [offset, node] at each change."""
     hart: int
     first: int
     codes: list[int] = field(default_factory=list)
@@ -25,11 +25,13 @@ class RowWindow:
 
 class PageRows:
     """windows  what the page holds of rows
-    nodes    what it holds of calls: {(the node outside, the place of the call; below 0 the number of calls that are left out): its
-             number}"""
+    nodes    what it holds of calls: {(the node outside, the place of the call; below 0 the number
+             of calls that are left out): its number}"""
 
     def __init__(self, page: Page) -> None:
-        self.page, self.rows, self.calls = page, page.rows, page.calls
+        self.page = page
+        self.rows = page.rows
+        self.calls = page.calls
         self.wanted: set[int] = set()
         self.windows: list[RowWindow] = []
         self.nodes: dict[tuple[int, int], int] = {}
@@ -40,14 +42,15 @@ class PageRows:
         rows = self.rows
         if not row or len(self.wanted) >= ROWS:
             return
-        hart, count = rows.hart[row], rows.count_of(row)
+        hart = rows.hart[row]
+        count = rows.count_of(row)
         for near in range(max(rows.harts[hart].counts[0], count - back), count + ahead + 1):
             found = rows.row_of(hart, near)
             if found and len(self.wanted) < ROWS:
                 self.wanted.add(found)
 
-    def want(self, start: int, ways: Iterable[int], looked_at: Iterable[int], edges: Sequence[PageEdge],
-             race_rows: Iterable[int]) -> None:
+    def want(self, start: int, ways: Iterable[int], looked_at: Iterable[int],
+             edges: Sequence[PageEdge], race_rows: Iterable[int]) -> None:
         """What is likeliest looked at comes first."""
         rows = self.rows
         self.around(start, 60, 5)
@@ -65,7 +68,8 @@ class PageRows:
         for row in race_rows:
             self.around(row, 12, 12)
         for hart, last in rows.last.items():
-            first, end = rows.harts[hart].counts[0], rows.count_of(last)
+            first = rows.harts[hart].counts[0]
+            end = rows.count_of(last)
             spots = max(1, SPOTS // len(rows.last))
             for i in range(spots):
                 self.around(rows.row_of(hart, first + (end - first) * i // spots), 10, 10)
@@ -79,11 +83,15 @@ class PageRows:
             self.read_hart(hart, rows)
 
     def read_hart(self, hart: int, rows: Sequence[int]) -> None:
-        window, before, expected = RowWindow(hart, 0), -1, -1
+        window = RowWindow(hart, 0)
+        before = -1
+        expected = -1
         for row in rows:
-            count, node = self.rows.count_of(row), self.calls.node_of(row)
+            count = self.rows.count_of(row)
+            node = self.calls.node_of(row)
             if count != expected:
-                window, before = RowWindow(hart, count), -1
+                window = RowWindow(hart, count)
+                before = -1
                 self.windows.append(window)
             window.tails.append(" | ".join(self.rows.told(row)))
             window.codes.append(self.page.code(self.rows.code[row]))
@@ -96,7 +104,8 @@ class PageRows:
         """The page's number of a node of the calls, with those around it."""
         if node in self.top_known:
             return self.top_known[node]
-        tree, at = self.calls.tree, node
+        tree = self.calls.tree
+        at = node
         path: list[int] = []
         while at and len(path) < CALLS:
             path.append(tree.call_pc[at])

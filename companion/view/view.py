@@ -49,10 +49,15 @@ HELP = """Draws a log as one page, to look at in a browser: harts, intervals, Ed
 
 The page is one file that needs no network and no other file. It holds names and lines of source of the program.
 Companions show; the program proves: rows, intervals, Edges and races are the program's, suspects are a judgement."""
-FORM = "view LOG ELF [--names ELF] [--source DIR] [--row HART:IC] [--output N:BYTE] [--rows N] [--with-questions] [--book BOOK] [--input FILE]"
-SCRIPTS = ("model.js", "questions.js", "timeline.js", "arrows.js", "story.js", "rows.js", "panels.js", "chain.js", "controls.js")
-RACES_ASKED, RACE_GROUPS, ARCS = 20000, 40, 12
-SUSPECTS, ORIGINS = 3, 6
+FORM = ("view LOG ELF [--names ELF] [--source DIR] [--row HART:IC] [--output N:BYTE] [--rows N] "
+        "[--with-questions] [--book BOOK] [--input FILE]")
+SCRIPTS = ("model.js", "questions.js", "timeline.js", "arrows.js", "story.js", "rows.js",
+           "panels.js", "chain.js", "controls.js")
+RACES_ASKED = 20000
+RACE_GROUPS = 40
+ARCS = 12
+SUSPECTS = 3
+ORIGINS = 6
 WAY_ROWS = 400          # of a way through the history are read at most
 
 
@@ -70,79 +75,98 @@ def as_script_data(data: Mapping[str, Any]) -> str:
 def page_text(title: str, data: Mapping[str, Any]) -> str:
     """The page. Its marks are replaced in one go, so a name that looks like a mark stays as it is.
 
-    Its policy lets a browser run this script alone, and ask for nothing: should markup ever get in, it does nothing."""
+    Its policy lets a browser run this script alone, and ask for nothing: should markup ever get in,
+    it does nothing."""
     script = "\n".join(part("page", name) for name in SCRIPTS)
     digest = base64.b64encode(hashlib.sha256(script.encode("utf-8")).digest()).decode("ascii")
-    pieces = {"TITLE": html.escape(title), "VERSION": html.escape(version()), "STYLE": part("page", "style.css"), "SCRIPT": script,
-              "POLICY": f"default-src 'none'; style-src 'unsafe-inline'; script-src 'sha256-{digest}'",
-              "DATA": as_script_data(data)}
-    return re.sub(f"@({'|'.join(pieces)})@", lambda found: pieces[found.group(1)], part("view.html"))
+    pieces = {"TITLE": html.escape(title), "VERSION": html.escape(version()),
+              "STYLE": part("page", "style.css"),
+              "SCRIPT": script, "POLICY": "default-src 'none'; style-src 'unsafe-inline'; "
+              f"script-src 'sha256-{digest}'", "DATA": as_script_data(data)}
+    return re.sub(f"@({'|'.join(pieces)})@",
+                  lambda found: pieces[found.group(1)], part("view.html"))
 
 
 class View:
     """Gathers what the page tells of a crash that `why` analysed."""
 
-    def __init__(self, crash: Analysis, story: Optional[Story] = None, with_questions: bool = False) -> None:
+    def __init__(self, crash: Analysis, story: Optional[Story] = None,
+                 with_questions: bool = False) -> None:
         self.with_questions = with_questions
-        self.crash, self.log, self.places = crash, crash.log, crash.places
+        self.crash = crash
+        self.log = crash.log
+        self.places = crash.places
         self.page = Page(crash.trace, self.places, self.log)
         self.story = story_data(story, Teller(crash.named, crash.places), self.log, crash.rows)
         self.fault = self.crash.rows.fault if crash.faulted else None
         self.suspects = crash.shown[:SUSPECTS]
         self.races: Optional[Races] = None
         self.race_groups: list[dict[str, Any]] = []
-        self.race_total, self.races_note = 0, ""
+        self.race_total = 0
+        self.races_note = ""
         if self.log.harts > 1:
             self.read_races()
 
     def read_races(self) -> None:
-        races = self.races = Races(self.crash.named, self.places).read(self.log.harts, self.log.name, self.crash.elf.name, RACES_ASKED)
+        races = self.races = Races(self.crash.named, self.places).read(
+            self.log.harts, self.log.name, self.crash.elf.name, RACES_ASKED)
         if races.over:
-            self.races_note = f"There are more than {number(RACES_ASKED)} races, so none is drawn; zelkuma race groups them."
+            self.races_note = (f"There are more than {number(RACES_ASKED)} races, "
+                               "so none is drawn; zelkuma race groups them.")
             return
         judged = Judged(races, self.crash.trace, self.crash.history if self.fault else None)
         families = judged.families()
-        self.race_groups = [self.race_group(races, judged, family) for family in families[:RACE_GROUPS]]
+        self.race_groups = [self.race_group(races, judged, family)
+                            for family in families[:RACE_GROUPS]]
         self.race_total = len(families)
 
     def race_group(self, races: Races, judged: Judged, family: list[Group]) -> dict[str, Any]:
         """A family of groups for the page; the pair that tells most comes first."""
         one, other = judged.pair(family[0])
-        pairs = [pair for group in family for pair in group.first if pair[0] is not one or pair[1] is not other]
+        pairs = [pair for group in family
+                 for pair in group.first if pair[0] is not one or pair[1] is not other]
         arcs = [self.arc(pair) for pair in [(one, other)] + pairs[:ARCS - 1]]
         return dict(pairs=pairs_of(family), word=family_word(races, family), kind=family[0].kind,
-                    judged=judged.reason(family[0]), first=self.page.place(one.pc), second=self.page.place(other.pc), arcs=arcs)
+                    judged=judged.reason(family[0]), first=self.page.place(one.pc),
+                    second=self.page.place(other.pc), arcs=arcs)
 
     def arc(self, pair: AccessPair) -> list[int]:
         """Hart, count and row of both accesses."""
         return [value for access in pair
-                for value in (access.hart, access.count, self.crash.rows.row_of(access.hart, access.count))]
+                for value in (access.hart, access.count,
+                              self.crash.rows.row_of(access.hart, access.count))]
 
     def where(self) -> int:
-        """The place of the end; if the fault is a jump to an address without code, that of the jump."""
+        """The place of the end; if the fault is a jump to an address without code, that of the
+        jump."""
         row = self.crash.start
         if self.fault and self.fault.name == "FetchOutside" and len(self.crash.last) > 1:
             row = self.crash.last[-2]
         return self.page.place_of_row(row)
 
     def suspect(self, item: Suspect) -> dict[str, Any]:
-        """A suspect for the page: the guilty row, and the steps from it to the load that the history knows."""
+        """A suspect for the page: the guilty row, and the steps from it to the load that the
+        history knows."""
         steps = [self.step(words, row) for words, row in item.extra]
         if item.kind == "back":
             steps.append(self.step(NEW_OWNER, item.store))
         has_load = item.kind not in ALONE
         if has_load:
             steps.append(self.step("loaded it in", item.load))
-        return dict(at=self.page.point(item.guilty), place=self.page.place(self.crash.own_pc(item.guilty)), did=DID[item.kind],
-                    load=self.page.point(item.load) if has_load else None, steps=steps, why=item.why, pairs=item.rows,
+        return dict(at=self.page.point(item.guilty),
+                    place=self.page.place(self.crash.own_pc(item.guilty)), did=DID[item.kind],
+                    load=self.page.point(item.load) if has_load else None, steps=steps,
+                    why=item.why, pairs=item.rows,
                     calledFrom=[frame.text() for frame in self.crash.callers(item.guilty)])
 
     def step(self, words: str, row: int) -> dict[str, Any]:
         told = self.crash.rows.load_of(row)
         text = as_text(told.value) if told else ""
         names = [self.crash.members.name(told.address), f"'{text}'" if text else ""] if told else []
-        return dict(words=words, at=self.page.point(row), place=self.page.place(self.crash.own_pc(row)),
-                    word=f"{told.address:08x}={told.value:08x}" if told else "", about=" ".join(filter(None, names)))
+        return dict(words=words, at=self.page.point(row),
+                    place=self.page.place(self.crash.own_pc(row)),
+                    word=f"{told.address:08x}={told.value:08x}" if told else "",
+                    about=" ".join(filter(None, names)))
 
     def no_suspect(self) -> str:
         """What is said if no row of the log stored the value."""
@@ -165,54 +189,73 @@ class View:
         """{row: words} of loads that no row stored, if there are few suspects."""
         cost = self.crash.history.cost
         nearest = sorted(self.crash.origin.items(), key=lambda item: cost[item[1].nearest])
-        return {loads.nearest: origin.words for origin, loads in nearest[:2]} if len(ways) < 2 else {}
+        return ({loads.nearest: origin.words for origin, loads in nearest[:2]} if len(ways) < 2
+                else {})
 
-    def rows(self, edges: Sequence[PageEdge], ways: Sequence[Way], origins: Mapping[int, str]) -> PageRows:
-        history, rows = self.crash.history, PageRows(self.page)
+    def rows(self, edges: Sequence[PageEdge], ways: Sequence[Way],
+             origins: Mapping[int, str]) -> PageRows:
+        history = self.crash.history
+        rows = PageRows(self.page)
         on_ways = [row for goal in [way.row for way in ways] + list(origins)
                    for row, _ in history.path(goal)[:WAY_ROWS]]
-        arcs = [row for group in self.race_groups for arc in group["arcs"] for row in (arc[2], arc[5])]
+        arcs = [row for group in self.race_groups for arc in group["arcs"]
+                for row in (arc[2], arc[5])]
         looked_at = [row for item in self.suspects for row in (item.guilty, item.store, item.load)]
         rows.want(self.crash.start, on_ways + [way.guilty for way in ways], looked_at, edges, arcs)
         rows.read()
         return rows
 
     def data(self) -> dict[str, Any]:
-        crash, log, page = self.crash, self.log, self.page
-        edges, (strips, functions), ways = page.edges(), page.strips(), self.ways()
+        crash = self.crash
+        log = self.log
+        page = self.page
+        edges = page.edges()
+        strips, functions = page.strips()
+        ways = self.ways()
         origins = self.origins_drawn(ways)
         rows = self.rows(edges, ways, origins)
         data: dict[str, Any] = dict(
-            elf=os.path.basename(crash.elf.name), log=os.path.basename(log.shown), harts=log.harts, bytes=log.bytes,
-            rows=self.crash.rows.size, dropped=log.dropped, unread=log.unread, intervals=page.intervals(), segments=list(page.segments()),
+            elf=os.path.basename(crash.elf.name), log=os.path.basename(log.shown),
+            harts=log.harts, bytes=log.bytes,
+            rows=self.crash.rows.size, dropped=log.dropped, unread=log.unread,
+            intervals=page.intervals(), segments=list(page.segments()),
             edges=edges, allEdges=len(log.edges.counts), strips=strips, functions=functions,
-            ends=[[hart, end.count, end.reason, f"{end.value:08x}"] for hart, end in sorted(log.ends.items())],
+            ends=[[hart, end.count, end.reason, f"{end.value:08x}"]
+                  for hart, end in sorted(log.ends.items())],
             races=self.race_groups, allRaces=self.races.total if self.races else 0,
             raceGroups=self.race_total, racesNote=self.races_note,
-            windows=[[each.hart, each.first, each.codes, "\n".join(each.tails), each.calls] for each in rows.windows],
+            windows=[[each.hart, each.first, each.codes, "\n".join(each.tails), each.calls]
+                     for each in rows.windows],
             nodes=[(0, 0), *rows.nodes], chain=chain_boxes(page, crash.history, ways, origins))
         data.update(self.end_data(), story=self.story)
         if self.with_questions:
             data["questions"] = questions_data(page, crash, self.suspects, self.races)
         told = [data["where"]] + [item["place"] for item in data["suspects"]]
-        data.update(codes=page.code_list, places=page.place_list, around={each: page.around(each) for each in told})
+        data.update(codes=page.code_list, places=page.place_list,
+                    around={each: page.around(each) for each in told})
         return data
 
     def end_data(self) -> dict[str, Any]:
-        crash, history = self.crash, self.crash.history
+        crash = self.crash
+        history = self.crash.history
         final = self.crash.rows.final[self.crash.rows.hart[crash.start]]
         return dict(
-            start=self.page.point(crash.start), where=self.where(), notes=crash.notes + unread(crash) + crash.places.trouble(),
+            start=self.page.point(crash.start), where=self.where(),
+            notes=crash.notes + unread(crash) + crash.places.trouble(),
             fault=[self.fault.name, f"{self.fault.value:08x}"] if self.fault else None,
-            about=self.about(), words=self.words(), memory=MemoryErrors(crash).lines(), hang=self.hang(),
+            about=self.about(), words=self.words(),
+            memory=MemoryErrors(crash).lines(), hang=self.hang(),
             suspects=[self.suspect(item) for item in self.suspects], noSuspect=self.no_suspect(),
             chainRows=len(history.cost) - len(history.decided), chainCut=history.cut,
-            registers=[] if crash.asked else [f"{value:08x}" for value in final], registerNames=NAMES,
-            origin=[[loads.times, *origin] for origin, loads in list(crash.origin.items())[:ORIGINS]])
+            registers=[] if crash.asked else [f"{value:08x}" for value in final],
+            registerNames=NAMES,
+            origin=[[loads.times, *origin]
+                    for origin, loads in list(crash.origin.items())[:ORIGINS]])
 
     def about(self) -> str:
         crash = self.crash
-        return "output" if crash.output else "fault" if self.fault else "row" if crash.asked else "hang" if crash.loops else "end"
+        return ("output" if crash.output else "fault" if self.fault else "row" if crash.asked
+                else "hang" if crash.loops else "end")
 
     def hang(self) -> list[str]:
         lines = hang_lines(self.crash, False) if self.crash.loops else []
@@ -237,7 +280,8 @@ def main(words: list[str]) -> int:
     (log_name, elf_name), given = read_words(words, FORM)
     byte = asked_byte(given["--output"]) if "--output" in given else None
     if sys.stdout.isatty():
-        raise CompanionError("the page is for a browser, and not for a terminal: zelkuma view LOG ELF >page.html", REFUSED)
+        raise CompanionError("the page is for a browser, and not for a terminal: "
+                             "zelkuma view LOG ELF >page.html", REFUSED)
     with analysed(log_name, elf_name, given, byte) as crash:
         with streams.working("the page is made"):
             view = View(crash, asked_story(given, crash.log, elf_name), "--with-questions" in given)

@@ -27,7 +27,10 @@ WITH_WORD = ("-o", "-I", "-L", "-D", "-U", "-include", "-x", "-T", "-u", "-z", "
 
 def sorted_words(words):
     """Of a call that links: (sources, words to compile them, words to link, output)."""
-    sources, to_compile, to_link, output = [], [], [], "a.out"
+    sources = []
+    to_compile = []
+    to_link = []
+    output = "a.out"
     left = iter(words)
     for word in left:
         if word == "-o":

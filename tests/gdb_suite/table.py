@@ -15,7 +15,8 @@ import sys
 from collections import Counter, defaultdict
 from typing import Dict, Iterator, List, NamedTuple, Tuple
 
-PASSED, FAILED = ("PASS", "KPASS", "XPASS"), "FAIL"     # K: a known failure; X: an expected one
+PASSED = ("PASS", "KPASS", "XPASS")  # K: a known failure
+FAILED = "FAIL"  # X: an expected one
 FILE = re.compile(r"Running .*/(gdb\.\w+/[^ /]+\.exp) ")
 RESULT = re.compile(r"([A-Z]+): gdb\.\w+/[^ ]+\.exp: (.*)")
 WRITE = re.compile("can't be changed|Could not write|Cannot access memory|memory write|"
@@ -33,12 +34,15 @@ class Result(NamedTuple):
 
 
 def results(log: str) -> Iterator[Result]:
-    file, said = "", ""
+    file = ""
+    said = ""
     with open(log, encoding="utf-8", errors="replace") as lines:
         for line in lines:
-            begun, ended = FILE.match(line), RESULT.search(line)
+            begun = FILE.match(line)
+            ended = RESULT.search(line)
             if begun:
-                file, said = begun[1], ""
+                file = begun[1]
+                said = ""
             elif ended and ended[1] in (*PASSED, FAILED):
                 yield Result(file, ended[1] in PASSED, ended[2], said)
                 said = ""
@@ -60,7 +64,10 @@ def main(bridge: str, control: str) -> None:
     # By file, and whether it is the bridge.
     counts: Dict[Tuple[str, bool], Counter] = defaultdict(Counter)
     causes: Dict[str, Counter] = defaultdict(Counter)
-    wrote, ended, others = set(), set(), []     # files that did, and failures without another cause
+    # Files that did, and failures without another cause
+    wrote = set()
+    ended = set()
+    others = []
     for is_bridge, folder in enumerate((control, bridge)):
         for result in results(os.path.join(folder, "gdb.log")):
             counts[result.file, bool(is_bridge)][result.passed] += 1

@@ -3,16 +3,17 @@
 
 tests/pages/documents.py [--write] [--without NAME,..] PROGRAM DOCUMENT..
 
-An example can be pasted: a block ```sh has commands, and a block ```text right after it what out and err have to get
-from them; without such a block that is nothing. A block whose first line begins with a prompt ('$ ') can't be pasted,
-and is refused.
+An example can be pasted: a block ```sh has commands, and a block ```text right after it what out
+and err have to get from them; without such a block that is nothing. A block whose first line begins
+with a prompt ('$ ') can't be pasted, and is refused.
 
-All examples of a document run in one bash, one after another, as those of a new user: with a PATH of /usr/bin:/bin, no
-other variables but HOME, and another folder for /tmp/. Their folder has what a checkout has, but for the crates, and
-PROGRAM as the shipped one. A line '...' represents any lines. A block after a line '<!-- not run -->' isn't
-run, nor one after '<!-- needs NAME.. -->' if there is no command or file NAME, which is said. With --write the document
-gets what was printed, if it differs. Of `addr2line` and `gdb` any will do, of whatever machine; --without hides all of
-these, so that a page is tried as it is for a reader who lacks them.
+All examples of a document run in one bash, one after another, as those of a new user: with a PATH
+of /usr/bin:/bin, no other variables but HOME, and another folder for /tmp/. Their folder has what a
+checkout has, but for the crates, and PROGRAM as the shipped one. A line '...' represents any lines.
+A block after a line '<!-- not run -->' isn't run, nor one after '<!-- needs NAME.. -->' if there is
+no command or file NAME, which is said. With --write the document gets what was printed, if it
+differs. Of `addr2line` and `gdb` any will do, of whatever machine; --without hides all of these, so
+that a page is tried as it is for a reader who lacks them.
 """
 import os
 import re
@@ -33,10 +34,14 @@ if not os.path.exists("/usr/bin/python3"):
 
 
 class Step:
-    """Commands, what they have to print, and that text's place in the document; `fence` is put around it if it is new."""
+    """Commands, what they have to print, and that text's place in the document; `fence` is put
+    around it if it is new."""
 
     def __init__(self, command, wanted, start, fence=False):
-        self.command, self.wanted, self.start, self.fence = command, wanted, start, fence
+        self.command = command
+        self.wanted = wanted
+        self.start = start
+        self.fence = fence
 
     def text_of(self, printed):
         return f"\n```text\n{printed}```\n" if self.fence and printed else printed
@@ -45,7 +50,8 @@ class Step:
 def is_here(tool):
     """Whether a tool is found, under its own name or that of another machine."""
     if tool in KINDS:
-        return any(KINDS[tool].fullmatch(name) for folder in NEW_PATH.split(":") if os.path.isdir(folder) for name in os.listdir(folder))
+        return any(KINDS[tool].fullmatch(name) for folder in NEW_PATH.split(":")
+                   if os.path.isdir(folder) for name in os.listdir(folder))
     return shutil.which(tool, path=NEW_PATH) is not None
 
 
@@ -53,18 +59,21 @@ def path_without(kinds, folder):
     """A folder with all the commands of the path but those of some kinds."""
     for place in NEW_PATH.split(":"):
         for name in os.listdir(place) if os.path.isdir(place) else ():
-            if not any(KINDS[kind].fullmatch(name) for kind in kinds) and not os.path.lexists(f"{folder}/{name}"):
+            if (not any(KINDS[kind].fullmatch(name) for kind in kinds)
+                    and not os.path.lexists(f"{folder}/{name}")):
                 os.symlink(f"{place}/{name}", f"{folder}/{name}")
     return folder
 
 
 def is_run(before, name):
-    """Whether the block that comes after this text is run. Says what it needs, if that isn't there."""
+    """Whether the block that comes after this text is run. Says what it needs, if that isn't
+    there."""
     before = before.rstrip()
     needs = re.search(r"<!-- needs ([^>]+) -->$", before)
     for need in needs[1].split() if needs else ():
         if not is_here(need) and not os.path.exists(need):
-            print(f"skipped: the example at line {before.count(chr(10)) + 2} of {name}: there is no {need}")
+            print(f"skipped: the example at line {before.count(chr(10)) + 2} of {name}: "
+                  f"there is no {need}")
             return False
     return not before.endswith("<!-- not run -->")
 
@@ -97,7 +106,8 @@ def prompts_in(name, text):
 def lay_checkout(top, program):
     """A checkout without its crates, and with this program as the shipped one."""
     for name in ("companion", "docs", "examples", "packaging", "python", "tests/crashes", "tools"):
-        shutil.copytree(f"{TOP}/{name}", f"{top}/{name}", ignore=shutil.ignore_patterns("__pycache__"))
+        shutil.copytree(f"{TOP}/{name}", f"{top}/{name}",
+                        ignore=shutil.ignore_patterns("__pycache__"))
     for name in ("LICENSE", "README.md", "VERSION", "crates.txt", "zelkuma"):
         shutil.copy(f"{TOP}/{name}", top)
     os.makedirs(f"{top}/release")
@@ -110,10 +120,11 @@ def printed_by(commands, program, room):
     """Returns what each of the commands prints, run one after another."""
     lay_checkout(f"{room}/top", program)
     os.makedirs(f"{room}/tmp")
-    script = "".join(f"{it.replace('/tmp/', f'{room}/tmp/')}__status=$?; echo '{END}'; (exit $__status)\n" for it in commands)
+    script = "".join(f"{it.replace('/tmp/', f'{room}/tmp/')}__status=$?; echo '{END}'; "
+                     "(exit $__status)\n" for it in commands)
     new = {"PATH": NEW_PATH, "HOME": room, "LANG": "C.UTF-8"}
-    ran = subprocess.run(["bash", "-c", script], cwd=f"{room}/top", stdin=subprocess.DEVNULL, stdout=subprocess.PIPE,
-                         stderr=subprocess.STDOUT, env=new, timeout=7200)
+    ran = subprocess.run(["bash", "-c", script], cwd=f"{room}/top", stdin=subprocess.DEVNULL,
+                         stdout=subprocess.PIPE, stderr=subprocess.STDOUT, env=new, timeout=7200)
     said = ran.stdout.decode(errors="replace").replace(f"{room}/tmp/", "/tmp/")
     return said.split(f"{END}\n")[:-1]
 
@@ -130,7 +141,9 @@ def try_document(name, program, writes):
     with tempfile.TemporaryDirectory() as room:
         printed = printed_by([it.command for it in steps], os.path.realpath(program), room)
     printed += ["(nothing: the examples before ended the shell)\n"] * (len(steps) - len(printed))
-    failed, made, kept = prompts_in(name, text), "", 0
+    failed = prompts_in(name, text)
+    made = ""
+    kept = 0
     for step, got in zip(steps, printed):
         is_well = fits(step.wanted, got)
         made += text[kept : step.start] + (step.wanted if is_well else step.text_of(got))

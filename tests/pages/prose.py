@@ -3,12 +3,13 @@
 
 tests/pages/prose.py [PAGE, SOURCE or FOLDER..]
 
-Without words all are checked. No sentence may have more than 35 words, no table cell more than 60, and no page more
-than PAGES says (as `wc -w` counts). None of the words in WORDS may stand there, and no link may lead nowhere.
-Code is not prose: blocks are passed over, and a piece of inline code is one word of its sentence.
+Without words all are checked. No sentence may have more than 35 words, no table cell more than 60,
+and no page more than PAGES says (as `wc -w` counts). None of the words in WORDS may stand there,
+and no link may lead nowhere. Code is not prose: blocks are passed over, and a piece of inline code
+is one word of its sentence.
 
-Of a source (COMMENTS has the endings), the lines of a comment are one text; so are those of a Python docstring. A line
-in which blanks set a name apart from what it is begins a text of its own.
+Of a source (COMMENTS has the endings), the lines of a comment are one text; so are those of a
+Python docstring. A line in which blanks set a name apart from what it is begins a text of its own.
 
 The checks are first tried on text that has each fault and on text that has none (SAMPLES, SOURCES).
 """
@@ -46,11 +47,12 @@ PAGES = {
 }
 
 # What "where" may follow: a place, or a verb that asks for one.
-PLACES = "line place point folder address page file function see says show shows know find from of".split()
+PLACES = ("line place point folder address page file function see says show shows know find "
+          "from of".split())
 NO_PLACE = "".join(rf"(?<!\b{word}\s)" for word in PLACES)
 
-# Words that only insiders understand, as regular expressions, and what to write in their place. One that begins with
-# a capital letter matches that letter alone; all others match in either case.
+# Words that only insiders understand, as regular expressions, and what to write in their place. One
+# that begins with a capital letter matches that letter alone; all others match in either case.
 WORDS = [
     (r"want of memory|wants? of memory", "out of memory"),
     (r"(?:was|is|were|are|isn't|wasn't) wanting|starved", "out of memory"),
@@ -67,11 +69,14 @@ WORDS = [
     (r"as before|as ever", "nothing: say what is, not what was"),
     (r"anew", "again"),
     (r"(?:isn't|is not|aren't|are not) promised", "not guaranteed"),
-    (r"(?:store|file|input|output)s? tells?|holds? what (?:it|they) tells?", "contain what was last written"),
+    (r"(?:store|file|input|output)s? tells?|holds? what (?:it|they) tells?",
+     "contain what was last written"),
     (r"tell(?:s)? (?:its|their) files", "contain what was last written"),
     (r"Where(?! (?:is|are|was|were|do|does|did|to)\b)", "if, when (where is for places)"),
-    (r"(?:exactly|only|just|also|but|except|unless|even|so|and) where", "if, when (where is for places)"),
-    (NO_PLACE + r"(?-i:where) (?:memory|there|a|an|no|one|each|it|they|the (?:store|run|log|replay))", "if, when"),
+    (r"(?:exactly|only|just|also|but|except|unless|even|so|and) where",
+     "if, when (where is for places)"),
+    (NO_PLACE + r"(?-i:where) (?:memory|there|a|an|no|one|each|it|they|the "
+     r"(?:store|run|log|replay))", "if, when"),
     (r"(?:a|each|every|second|such a|one) touch|touches of", "access"),
     (r"falls? at|stops? being listed", "evict"),
     (r"stretch(?:es)?", "interval; epoch in the race log"),
@@ -86,7 +91,8 @@ SAMPLES = [
     ("One word " + "and one more " * 12 + "end.", ["sentence of 39 words"]),
     ("word " * 34 + "word. " + "word " * 34 + "word.", []),
     ("word " * 35 + "word.", ["sentence of 36 words"]),
-    ("word " * 20 + "`some code that is one word` " + "word " * 14 + "word.", ["sentence of 36 words"]),
+    ("word " * 20 + "`some code that is one word` " + "word " * 14 + "word.",
+     ["sentence of 36 words"]),
     ("- " + "word " * 34 + "word\n- " + "word " * 34 + "word\n", []),
     ("word " * 20 + "\n" + "word " * 20 + "\n", ["sentence of 40 words"]),
     ("word " * 20 + "e.g. " + "word " * 20, ["sentence of 41 words"]),
@@ -104,16 +110,19 @@ SAMPLES = [
     ("The wrong bodies.", ["'wrong bodies'"]),
     ("See [the page](docs/NOWHERE.md).", ["docs/NOWHERE.md is not there"]),
     ("See `docs/NOWHERE.md`.", ["docs/NOWHERE.md is not there"]),
-    ("# A title, twice\n\nSee [above](#a-title-twice) and [below](#below).", ["#below is no heading"]),
+    ("# A title, twice\n\nSee [above](#a-title-twice) and [below](#below).",
+     ["#below is no heading"]),
     ("See [tests](tests/pages/prose.py) and [a site](https://example.org/x).", []),
 ]
 
-# The comments of each kind of source: strings are matched first, so that a mark inside one begins no comment.
+# The comments of each kind of source: strings are matched first, so that a mark inside one begins
+# no comment.
 STRING = r'"(?:\\.|[^"\\])*"'
 SHORT_STRING = r"\"(?:\\.|[^\"\\\n])*\"|'(?:\\.|[^'\\\n])*'"
 DOCSTRING = r'^[ \t]*[a-z]?"""(?P<text>(?:\\.|[^\\])*?)"""'
 MARKS = {
-    ".rt": rf'r(?P<hashes>#*)".*?"(?P=hashes)|{STRING}|\'(?:\\.|[^\'\\])\'|(?P<mark>//[/!]?)(?P<line>[^\n]*)',
+    ".rt": (rf'r(?P<hashes>#*)".*?"(?P=hashes)|{STRING}|\'(?:\\.|[^\'\\])\'|'
+            r"(?P<mark>//[/!]?)(?P<line>[^\n]*)"),
     ".antt": rf"{STRING}|(?P<mark>(?<!\S)--)(?P<line>[^\n]*)",
     ".py": rf'{DOCSTRING}|"""(?:\\.|[^\\])*?"""|{SHORT_STRING}|(?P<mark>#)(?!!)(?P<line>[^\n]*)',
     ".sh": r"'[^'\n]*'|\"(?:\\.|[^\"\\\n])*\"|(?P<mark>(?<!\S)#)(?!!)(?P<line>[^\n]*)",
@@ -127,8 +136,10 @@ LONG = "word " * 20
 SOURCES = [
     (".rt", "//! A cost\n//! goes by steps.\nfn f() {}\n", [(2, "'goes by'")]),
     (".rt", '/// It is "wanting".\nlet a = "// a cost goes by steps";\n', []),
-    (".rt", 'let a = r#"a " // yet"#;\nlet b = \'"\'; // not yet\nlet c = "yet";\n', [(2, "'yet'")]),
-    (".rt", "    'oldest: while true { // as before\n    'next: loop {} // `anew`\n", [(1, "'as before'")]),
+    (".rt", 'let a = r#"a " // yet"#;\nlet b = \'"\'; // not yet\nlet c = "yet";\n',
+     [(2, "'yet'")]),
+    (".rt", "    'oldest: while true { // as before\n    'next: loop {} // `anew`\n",
+     [(1, "'as before'")]),
     (".rt", f"// {LONG}\n// {LONG}\n", [(1, "sentence of 40 words")]),
     (".rt", f"//! {LONG}\n// {LONG}\n", []),
     (".rt", f"// {LONG}\n//\n// {LONG}\n", []),
@@ -137,15 +148,21 @@ SOURCES = [
     (".antt", "-- the cost, which\n-- goes by steps\nlent : ℕ\n", [(2, "'goes by'")]),
     (".antt", 'a = codes "-- yet" -- yet\nx--dear = 1\n', [(1, "'yet'")]),
     (".antt", f"-- ---- {LONG}\n-- {LONG}\n", []),
-    (".py", '"""A page.\n\nIt is dear.\n"""\na = "# dear"  # dear\n', [(3, "'dear'"), (5, "'dear'")]),
+    (".py", '"""A page.\n\nIt is dear.\n"""\na = "# dear"  # dear\n',
+     [(3, "'dear'"), (5, "'dear'")]),
     (".py", 'a = """\n# not yet\n"""\nb = \'#\'\n', []),
-    (".py", f'def f():\n    """{LONG}\n    {LONG}\n\n    {LONG}"""\n', [(2, "sentence of 40 words")]),
+    (".py", f'def f():\n    """{LONG}\n    {LONG}\n\n    {LONG}"""\n',
+     [(2, "sentence of 40 words")]),
     (".py", f"a = 1  # {LONG}\n# {LONG}\nb = 2  # {LONG}\n", []),
-    (".py", f'class A:\n    """first   {LONG}\n    second  {LONG}\n    {LONG}"""\n', [(3, "of 41 words")]),
-    (".sh", "#!/bin/dear\n# It goes\n#   by steps.\na=${#dear} # yet\nb='# yet'\n", [(2, "'goes by'"), (4, "'yet'")]),
-    (".sh", f"# {LONG}\n# {LONG}\nf() {{\n    [ $# = 0 ] && echo \"$# # yet\" # not dear\n}}\n", [(1, "of 40 words"), (4, "'dear'")]),
+    (".py", f'class A:\n    """first   {LONG}\n    second  {LONG}\n    {LONG}"""\n',
+     [(3, "of 41 words")]),
+    (".sh", "#!/bin/dear\n# It goes\n#   by steps.\na=${#dear} # yet\nb='# yet'\n",
+     [(2, "'goes by'"), (4, "'yet'")]),
+    (".sh", f"# {LONG}\n# {LONG}\nf() {{\n    [ $# = 0 ] && echo \"$# # yet\" # not dear\n}}\n",
+     [(1, "of 40 words"), (4, "'dear'")]),
     (".sh", "awk '\n# anew, it doesn't end here\n{ print }' a#yet\n", [(2, "'anew'")]),
-    (".edit", "# Not yet.\nfile: a.rt\nold: x # dear\nnew: # lent\n# as ever\n", [(1, "'yet'"), (5, "'as ever'")]),
+    (".edit", "# Not yet.\nfile: a.rt\nold: x # dear\nnew: # lent\n# as ever\n",
+     [(1, "'yet'"), (5, "'as ever'")]),
 ]
 
 CODE = "ξ"
@@ -157,7 +174,8 @@ def blanked(match, letter=" "):
 
 
 def without_code(text):
-    """Puts one long word in place of each piece of inline code, so that every offset stays as it is."""
+    """Puts one long word in place of each piece of inline code, so that every offset stays as it
+    is."""
     return re.sub(r"(`+)(?:(?!`).)+?\1(?!`)", lambda match: blanked(match, CODE), text, flags=re.S)
 
 
@@ -169,8 +187,10 @@ def without_marks(text):
 
 
 def prose_lines(text):
-    """Yields number and text of each line that is neither code nor comment; an empty one in place of a block."""
-    text = re.sub(r"<!--.*?-->", lambda match: re.sub(r"[^\n]", " ", match.group()), text, flags=re.S)
+    """Yields number and text of each line that is neither code nor comment; an empty one in place
+    of a block."""
+    text = re.sub(r"<!--.*?-->",
+                  lambda match: re.sub(r"[^\n]", " ", match.group()), text, flags=re.S)
     fence = None
     for number, line in enumerate(text.splitlines(), 1):
         mark = re.match(r"\s*(```+|~~~+)", line)
@@ -190,7 +210,8 @@ def cells_of(line):
 
 
 def blocks(text):
-    """Yields the paragraphs, headings, items and cells of a page: the kind, and the lines with their numbers."""
+    """Yields the paragraphs, headings, items and cells of a page: the kind, and the lines with
+    their numbers."""
     kept = []
     for number, line in prose_lines(text):
         begins = re.match(r"\s*(?:[-*+]|\d+\.)\s+|#+\s", line)
@@ -243,7 +264,8 @@ def length_faults(parts):
             if words_in(sentence) > LONGEST_SENTENCE:
                 first = offset + len(sentence) - len(sentence.lstrip())
                 beginning = " ".join(whole[first : first + 50].split())
-                yield line_of(lines, first), f"sentence of {words_in(sentence)} words: {beginning} .."
+                yield (line_of(lines, first),
+                       f"sentence of {words_in(sentence)} words: {beginning} ..")
 
 
 def pattern_of(words):
@@ -256,8 +278,10 @@ ANY_WORD = re.compile(rf"\b(?:{'|'.join(pattern_of(words) for words, _ in WORDS)
 
 
 def word_faults(parts):
-    """Searches all blocks at once, which is quicker, with a mark between them that no pattern passes over."""
-    texts, numbered = [], []
+    """Searches all blocks at once, which is quicker, with a mark between them that no pattern
+    passes over."""
+    texts = []
+    numbered = []
     for _, lines in parts:
         prose = without_marks(without_code("\n".join(line for _, line in lines)))
         texts += [re.sub(r"\"[^\"]*\"|“[^”]*”", lambda match: blanked(match, CODE), prose), "¶"]
@@ -320,8 +344,10 @@ def size_faults(text, page):
 
 
 def comments_in(kind, text):
-    """Yields line, column, mark and text of each line of a comment, and of each line of a docstring."""
-    line, at = 1, 0
+    """Yields line, column, mark and text of each line of a comment, and of each line of a
+    docstring."""
+    line = 1
+    at = 0
     for found in COMMENTS[kind].finditer(text):
         line += text.count("\n", at, found.start())
         at = found.start()
@@ -337,7 +363,9 @@ def comments_in(kind, text):
 
 def comment_texts(kind, text):
     """Yields the comments of a source, each as the number of its first line and its text."""
-    first, last, lines = 0, None, []
+    first = 0
+    last = None
+    lines = []
     for line, column, mark, words in comments_in(kind, text):
         title = re.match(r"\s*--+\s*", words)
         is_item = re.search(r"\S\s{2,}\S", words)
@@ -394,23 +422,28 @@ def sample_fault(text, wanted):
 
 
 def source_fault(kind, text, wanted):
-    """Says how the faults of a source's comments differ from what they should be; None if they don't."""
+    """Says how the faults of a source's comments differ from what they should be; None if they
+    don't."""
     found = comment_faults(kind, text)
     alike = [at == line and part in fault for (at, part), (line, fault) in zip(wanted, found)]
-    return None if len(found) == len(wanted) and all(alike) else f"has {found}, and should have {wanted}"
+    return (None if len(found) == len(wanted) and all(alike)
+            else f"has {found}, and should have {wanted}")
 
 
 def try_samples():
     passed = failed = 0
-    faults = [sample_fault(*sample) for sample in SAMPLES] + [source_fault(*source) for source in SOURCES]
+    faults = [sample_fault(*sample) for sample in SAMPLES] + [source_fault(*source)
+                                                              for source in SOURCES]
     for number, fault in enumerate(faults, 1):
         passed += fault is None
         failed += fault is not None
         if fault:
             print(f"tests/pages/prose.py: sample {number} {fault}")
     long_page = [fault for _, fault in size_faults("word " * 1001, "README.md")]
-    if long_page != ["has 1001 words, and may have 1000"] or list(size_faults("word " * 1000, "README.md")):
-        print("tests/pages/prose.py: a page of 1001 words, with 1000 allowed, is not told from one of 1000")
+    if (long_page != ["has 1001 words, and may have 1000"]
+            or list(size_faults("word " * 1000, "README.md"))):
+        print("tests/pages/prose.py: a page of 1001 words, with 1000 allowed, "
+              "is not told from one of 1000")
         return passed, failed + 1
     return passed + 1, failed
 
@@ -434,7 +467,8 @@ def chosen(words):
     if not words:
         return [*all_pages(), *sources_in(".")]
     paths = [os.path.relpath(os.path.realpath(word), TOP) for word in words]
-    inside = [list(sources_in(path)) if os.path.isdir(f"{TOP}/{path}") else [path] for path in paths]
+    inside = [list(sources_in(path)) if os.path.isdir(f"{TOP}/{path}") else [path]
+              for path in paths]
     return [path for several in inside for path in several]
 
 

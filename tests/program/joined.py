@@ -3,9 +3,9 @@
 
 tests/program/joined.py
 
-The texts of crates/joint_laws/specs/Corpus.antt are proved to be those of the definition, and the cases
-'joined as the definition has it' of crates/program_cases/stdout are what the program prints. They are in
-one order, and have to be equal.
+The texts of crates/joint_laws/specs/Corpus.antt are proved to be those of the definition, and the
+cases 'joined as the definition has it' of crates/program_cases/stdout are what the program prints.
+They are in one order, and have to be equal.
 """
 import os
 import re
@@ -27,12 +27,15 @@ def defined():
 
 def printed():
     """Returns the texts that the program prints."""
-    cases = re.split(r"^# joined as the definition has it: .*\n", read("program_cases/stdout"), flags=re.M)[1:]
-    joined = [re.split(r"run joint LOG ELF\nstatus 0, out (\d+), err 0\n", case)[1:3] for case in cases]
+    cases = re.split(r"^# joined as the definition has it: .*\n",
+                     read("program_cases/stdout"), flags=re.M)[1:]
+    joined = [re.split(r"run joint LOG ELF\nstatus 0, out (\d+), err 0\n", case)[1:3]
+              for case in cases]
     return [text[: int(size)].replace("\n", "") for size, text in joined]
 
 
-one, other = defined(), printed()
+one = defined()
+other = printed()
 if not one or one != other:
     places = [place for place, pair in enumerate(zip(one, other)) if pair[0] != pair[1]]
     sys.exit(f"tests/program/joined.py: {len(one)} and {len(other)} texts; not equal: {places}")

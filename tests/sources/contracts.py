@@ -58,7 +58,8 @@ abbrev pub fits : ℕ → Bool
 fits n = n < 7
 """,
 }
-LIB, HELD = "crates/ring/src/lib.rt", "crates/ring/specs/Held.antt"
+LIB = "crates/ring/src/lib.rt"
+HELD = "crates/ring/specs/Held.antt"
 # Each change of a text, and what is said of it.
 CHANGES = (
     ("src/lib.rt", "        self.size\n", "        self.size.max(0)\n", ()),

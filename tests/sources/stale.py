@@ -1,8 +1,8 @@
 #!/usr/bin/env python3
 """Compares what pages tell of the sources with the sources: tests/sources/stale.py
 
-The layers of docs/INTERNALS.md have the sizes that tools/sizes.py counts; the figures of bench/RESULTS.md are of the
-program that release/STAMP names.
+The layers of docs/INTERNALS.md have the sizes that tools/sizes.py counts; the figures of
+bench/RESULTS.md are of the program that release/STAMP names.
 """
 import pathlib
 import re
@@ -19,19 +19,23 @@ def text_of(name):
 
 
 def layers_fault():
-    crates = {folder.parent.name: sizes.sizes_of(folder.parent) for folder in TOP.glob("crates/*/src")}
+    crates = {folder.parent.name: sizes.sizes_of(folder.parent)
+              for folder in TOP.glob("crates/*/src")}
     layers = sizes.by_layer_of(TOP, crates)
     page = text_of("docs/INTERNALS.md")
     lacking = [layer for layer, _ in layers if f"\n| {layer} | " not in page]
     if lacking:
         return f"docs/INTERNALS.md hasn't the layers {', '.join(lacking)}"
-    return None if sizes.renewed(page, layers) == page else "docs/INTERNALS.md has other sizes: tools/sizes.py --renew"
+    return (None if sizes.renewed(page, layers) == page
+            else "docs/INTERNALS.md has other sizes: tools/sizes.py --renew")
 
 
 def program_fault():
     shipped = re.search(r"^program ([0-9a-f]{64})$", text_of("release/STAMP"), re.M)
-    told = re.search(r"^\| program \| that of `release/STAMP`, SHA-256 ([0-9a-f]{12})\b", text_of("bench/RESULTS.md"), re.M)
-    return None if shipped and told and shipped[1].startswith(told[1]) else "bench/RESULTS.md is of another program than release/STAMP"
+    told = re.search(r"^\| program \| that of `release/STAMP`, SHA-256 ([0-9a-f]{12})\b",
+                     text_of("bench/RESULTS.md"), re.M)
+    return (None if shipped and told and shipped[1].startswith(told[1])
+            else "bench/RESULTS.md is of another program than release/STAMP")
 
 
 def main():

@@ -1,19 +1,23 @@
 #!/usr/bin/env python3
-"""Makes all that tells the words of zelkuma from the tables beside this file, so that no two of them differ.
+"""Makes all that tells the words of zelkuma from the tables beside this file, so that no two of
+them differ.
 
 tools/help/make.py                   renews what the sources have of it
-tools/help/make.py --under PREFIX    what `zelkuma install` lays of it: the manual page, and the completion of words in bash
+tools/help/make.py --under PREFIX    what `zelkuma install` lays of it: the manual page, and the
+                                     completion of words in bash
 
-Written to the sources are the pages that `zelkuma help` and `zelkuma COMMAND --help` print, what the script knows of words,
-and the tables of docs/COMMANDS.md, which stand there between two comments. It also lists the files that `zelkuma install`
-lays. tests/pages/help.sh tries that it was called. A table has this form:
+Written to the sources are the pages that `zelkuma help` and `zelkuma COMMAND --help` print, what
+the script knows of words, and the tables of docs/COMMANDS.md, which stand there between two
+comments. It also lists the files that `zelkuma install` lays. tests/pages/help.sh tries that it was
+called. A table has this form:
 
     # a comment
     ENTRY              at the line's start; several with nothing between them share what follows,
       KEY TEXT         and are one entry, with ", " between them
           TEXT         more indented: the text continues
 
-A text `-` says that there is none. A text of which one is made has lines `@FORM TABLE@` in its file NAME.in.
+A text `-` says that there is none. A text of which one is made has lines `@FORM TABLE@` in its file
+NAME.in.
 """
 import pathlib
 import re
@@ -23,7 +27,8 @@ from typing import Callable, Dict, Iterable, Iterator, List, NamedTuple, Tuple
 
 HERE = pathlib.Path(__file__).resolve().parent
 TOP = HERE.parent.parent
-BEGINS, ENDS = re.compile(r"(<!-- made by tools/help/make\.py: (\w+) (\w+) ?(.*?) -->\n)"), "<!-- end of the table -->\n"
+BEGINS = re.compile(r"(<!-- made by tools/help/make\.py: (\w+) (\w+) ?(.*?) -->\n)")
+ENDS = "<!-- end of the table -->\n"
 OPTIONAL = r"\[[^]]*\](?:\.\.\.)?"
 
 
@@ -65,7 +70,8 @@ def read(name: str) -> List[Entry]:
             entries[-1].texts.append((key, f"{text} {line.strip()}"))
         else:
             key, _, text = line.strip().partition(" ")
-            entries[-1].texts.append((key, text.strip().replace("-", "") if text.strip() == "-" else text.strip()))
+            entries[-1].texts.append((key, text.strip().replace("-", "") if text.strip() == "-"
+                                      else text.strip()))
     return entries
 
 
@@ -83,7 +89,8 @@ def page_words(table: Table) -> Lines:
     for entry in table:
         # (an option and its value stay together)
         parts = re.findall(r"\[[^]]*\](?:\.\.\.)?|\S+", f"zelkuma {entry.name}")
-        lines = textwrap.wrap(" ".join(part.replace(" ", "\0") for part in parts), 110, subsequent_indent=" " * 8,
+        lines = textwrap.wrap(" ".join(part.replace(" ", "\0") for part in parts), 110,
+                              subsequent_indent=" " * 8,
                               break_long_words=False, break_on_hyphens=False)
         *first, last = [line.replace("\0", " ") for line in lines]
         yield from first
@@ -94,7 +101,8 @@ def page_words(table: Table) -> Lines:
 def page_options(table: Table) -> Lines:
     """An option without a range may tell in its place what it does."""
     for entry in table:
-        yield f"{entry.name:<18}{plain(entry.last('range', 'page')):<45}{plain(entry.last('default'))}"
+        allowed = plain(entry.last("range", "page"))
+        yield f"{entry.name:<18}{allowed:<45}{plain(entry.last('default'))}"
 
 
 def page_statuses(table: Table) -> Lines:
@@ -165,7 +173,8 @@ def man_words(table: Table) -> Lines:
     for entry in table:
         yield f".TP\n{bold(entry.name)}"
         for key, text in entry.texts:
-            yield from sentence(text) if key == "does" else [paragraph(text)] if key == "more" else []
+            yield from (sentence(text) if key == "does"
+                        else [paragraph(text)] if key == "more" else [])
 
 
 def man_options(table: Table) -> Lines:
@@ -196,7 +205,8 @@ def row(*cells: str) -> str:
 
 
 def cell_of(name: str) -> str:
-    """A name as code: a `|` would part the cells of a table, and the names of one entry stand apart."""
+    """A name as code: a `|` would part the cells of a table, and the names of one entry stand
+    apart."""
     escaped = name.replace("|", "\\|").replace(", ", "`, `")
     return f"`{escaped}`"
 
@@ -206,11 +216,13 @@ def table_words(table: Table) -> Lines:
 
 
 def table_options(table: Table) -> Lines:
-    return (row(cell_of(entry.name), *(entry.last(key) for key in ("sets", "range", "default"))) for entry in table)
+    return (row(cell_of(entry.name), *(entry.last(key) for key in ("sets", "range", "default")))
+            for entry in table)
 
 
 def table_statuses(table: Table) -> Lines:
-    """A status has a row for each line that err may get; a remedy follows the cause as a sentence."""
+    """A status has a row for each line that err may get; a remedy follows the cause as a
+    sentence."""
     for entry in table:
         rows: List[List[str]] = []
         for key, text in entry.texts:
@@ -227,8 +239,8 @@ def table_kinds(table: Table) -> Lines:
             for entry in table if entry.name.startswith("elf"))
 
 
-# What the script knows, as elements of arrays in bash. The value of an option is N (a number), FILE, or for one without a
-# value `flag`.
+# What the script knows, as elements of arrays in bash. The value of an option is N (a number),
+# FILE, or for one without a value `flag`.
 
 def element(key: str, text: str) -> str:
     escaped = re.sub(r'[\\"$]', r"\\\g<0>", text).replace("`", "'")
@@ -246,7 +258,8 @@ def names_of(entry: Entry) -> str:
 
 
 def words_names(table: Table) -> Lines:
-    return (element(f"{entry.first}.", names_of(entry)[len(entry.first):].strip()) for entry in table)
+    return (element(f"{entry.first}.", names_of(entry)[len(entry.first):].strip())
+            for entry in table)
 
 
 def words_record(table: Table) -> Lines:
@@ -254,7 +267,8 @@ def words_record(table: Table) -> Lines:
 
 
 def words_options(table: Table) -> Lines:
-    return (option(entry.first, text) for entry in table for text in re.findall(r"\[(--[^]]*)\]", entry.name))
+    return (option(entry.first, text) for entry in table
+            for text in re.findall(r"\[(--[^]]*)\]", entry.name))
 
 
 def words_ranges(table: Table) -> Lines:
@@ -266,7 +280,8 @@ def words_advice(table: Table) -> Lines:
 
 
 def told(entry: Entry) -> Iterator[Tuple[str, str]]:
-    """Of each name of a refused file, without the values behind it, what is wrong and what to do."""
+    """Of each name of a refused file, without the values behind it, what is wrong and what to
+    do."""
     for name in entry.name.split(", "):
         yield re.sub(" [A-Z]{2,}.*", "", name), f"{entry.last('cause')}: {entry.last('advice')}"
 
@@ -277,7 +292,8 @@ def words_kinds(table: Table) -> Lines:
 
 def words_limits(table: Table) -> Lines:
     """The ranges of options, by their names as they are typed."""
-    return (element(entry.first, text) for entry in table for text in entry.all("range") if text and entry.rest == "N")
+    return (element(entry.first, text) for entry in table
+            for text in entry.all("range") if text and entry.rest == "N")
 
 
 # What the companions know: the same advice, as entries of a dictionary in Python.
@@ -289,7 +305,8 @@ def pair(key: str, text: str) -> str:
 
 def advice_statuses(table: Table) -> Lines:
     """By the beginning of the line on err."""
-    return (pair(re.sub(" ?[A-Z]{2,}.*", "", entry.last("line").strip("`")), text) for entry in table for text in entry.all("advice"))
+    return (pair(re.sub(" ?[A-Z]{2,}.*", "", entry.last("line").strip("`")), text)
+            for entry in table for text in entry.all("advice"))
 
 
 def advice_ranges(table: Table) -> Lines:
@@ -305,7 +322,8 @@ def words_companions(table: Table) -> Lines:
     yield f'companions=" {" ".join(entry.first for entry in table)} "'
 
 
-# What the completion of words has to know: a command and its names; a command, an option and its value.
+# What the completion of words has to know: a command and its names; a command, an option and its
+# value.
 
 def completion_words(table: Table) -> Lines:
     return map(names_of, table)
@@ -316,7 +334,8 @@ def completion_record(table: Table) -> Lines:
 
 
 def completion_options(table: Table) -> Lines:
-    return (f"{entry.first} {text}" for entry in table for text in re.findall(r"(?<!\S|\w)\[?(--?[a-z][a-z-]*(?: [^]| ]+)?)", entry.name))
+    return (f"{entry.first} {text}" for entry in table
+            for text in re.findall(r"(?<!\S|\w)\[?(--?[a-z][a-z-]*(?: [^]| ]+)?)", entry.name))
 
 
 def lines_of(kind: str, form: str, table: str) -> str:
@@ -327,12 +346,14 @@ def lines_of(kind: str, form: str, table: str) -> str:
 def filled(kind: str) -> str:
     """The text of NAME.in, in which each line `@FORM TABLE@` is replaced by a table."""
     text = (HERE / f"{kind}.in").read_text(encoding="utf-8")
-    text = re.sub(r"^@(\w+) (\w+)@\n", lambda found: lines_of(kind, found[1], found[2]), text, flags=re.M)
+    text = re.sub(r"^@(\w+) (\w+)@\n",
+                  lambda found: lines_of(kind, found[1], found[2]), text, flags=re.M)
     return text.replace("@VERSION@", (TOP / "VERSION").read_text(encoding="utf-8").strip())
 
 
 def heads_of(form: str, first: str) -> List[str]:
-    return {"words": [first, "what it does"], "options": ["option", "what it sets", "range", "without it"],
+    return {"words": [first, "what it does"],
+            "options": ["option", "what it sets", "range", "without it"],
             "kinds": ["line on err", "what is wrong, what to do"],
             "statuses": ["status", "line on err, after `bugnet: `", "cause, and what to do"]}[form]
 
@@ -345,19 +366,25 @@ def renewed(name: str, text: str) -> str:
         if not end:
             sys.exit(f"{name}: a table has no end")
         heads = heads_of(form, first)
-        made += f"{mark}{row(*heads)}\n{'|---' * len(heads)}|\n{lines_of('table', form, table)}{end}{rest}"
+        made += (f"{mark}{row(*heads)}\n{'|---' * len(heads)}|\n"
+                 f"{lines_of('table', form, table)}{end}{rest}")
     return made
 
 
 def listed() -> str:
     """The names of the files that an installed script has in lib/zelkuma, beside the program."""
     names = ["VERSION", "release/COMMIT", "release/STAMP", *(f"tools/{name}" for name in (
-        "doctor.sh", "files.txt", "install.sh", "new.sh", "say.sh", "tools.txt", "version.sh", "help/each.txt", "help/page.txt", "help/words.sh"))]
-    starters = [f"{folder}/{end}" for folder in ("bare", "lib", "picolibc") for end in ("Makefile", "*.[cSh]", "program.ld")]
-    found = [*TOP.glob("tools/launcher/*.sh"), *(file for name in starters for file in TOP.glob(f"examples/{name}")), *(
-        file for ending in ("py", "html", "js", "css", "typed") for folder in ("companion", "companion/*", "companion/view/page", "python/zelkuma")
+        "doctor.sh", "files.txt", "install.sh", "new.sh", "say.sh", "tools.txt", "version.sh",
+        "help/each.txt", "help/page.txt", "help/words.sh"))]
+    starters = [f"{folder}/{end}" for folder in ("bare", "lib", "picolibc")
+                for end in ("Makefile", "*.[cSh]", "program.ld")]
+    found = [*TOP.glob("tools/launcher/*.sh"),
+             *(file for name in starters for file in TOP.glob(f"examples/{name}")), *(
+        file for ending in ("py", "html", "js", "css", "typed")
+        for folder in ("companion", "companion/*", "companion/view/page", "python/zelkuma")
         for file in TOP.glob(f"{folder}/*.{ending}"))]
-    return "".join(f"{name}\n" for name in sorted([*names, *(str(file.relative_to(TOP)) for file in found)]))
+    return "".join(f"{name}\n"
+                   for name in sorted([*names, *(str(file.relative_to(TOP)) for file in found)]))
 
 
 def write(file: pathlib.Path, text: str) -> None:
@@ -383,7 +410,8 @@ def kept() -> Dict[str, str]:
 
 def laid() -> Dict[str, str]:
     """What is laid beside the script that is installed, by name."""
-    return {"share/man/man1/zelkuma.1": filled("man"), "share/bash-completion/completions/zelkuma": filled("completion")}
+    return {"share/man/man1/zelkuma.1": filled("man"),
+            "share/bash-completion/completions/zelkuma": filled("completion")}
 
 
 def main(words: List[str]) -> None:
