@@ -123,3 +123,12 @@ SaysWhy old new (Err status) =
     ((status ≡ WordsRefused) × TellsLine (codes "bugnet: ZELKUMA_SCHEDULE refused\n") old new)
     ⊎ (((status ≡ OutOfMemory) × TellsLine (codes "bugnet: out of memory\n") old new)
     ⊎ ((name : List ℕ) × (refusal : Refusal) × ToldRefusal (list_names name) refusal (code status) old.text new.text old.faults new.faults))
+
+-- ---- both
+
+-- no file was saved or changed, at most a list was loaded, and err says why there are no turns
+pub record FindsTurns (note : Note) (old new : Stored) (was now : Stream) (result : Result Turns Status) : Type 0 where
+  pub still : new.files ≡ old.files
+  pub saves : new.saves ≡ old.saves
+  pub loads : LoadsFew note old new result
+  pub told : SaysWhy was now result

@@ -2,7 +2,7 @@
 ghost use Rattle.std.specs.Prelude.{◌≡◌, ◌≢◌, ◌++◌, ℕ, List, codes, Some, Ok, IfOk, IfSome, IsSome, MatchResult, OnSome};
 ghost use Rattle.bugnet.specs.Command.Record.{is_clash};
 ghost use Rattle.command_words.specs.Words.{command_in, number_of, seen_recording};
-ghost use Rattle.bugnet_main.specs.Asked.{AskForTurns, TakesTurns, IsFor, IsUnasked, LoadsList, LoadsFew, IsSaid, SaysWhy, TellsLine, drawn_by, harts_by};
+ghost use Rattle.bugnet_main.specs.Asked.{AskForTurns, TakesTurns, IsFor, IsUnasked, LoadsList, FindsTurns, IsSaid, SaysWhy, TellsLine, drawn_by, harts_by};
 
 use bn_base::Settings;
 use bn_outside::{Manner, Schedule, Sink, Store, send_all};
@@ -168,10 +168,7 @@ fn named<S: Store, X: Sink>(
     files: &mut S,
     err: &mut X,
 ) -> Result<Turns, Status>
-    ensures still { (S.stored files.new).files ≡ (S.stored files.old).files }
-    ensures saves { (S.stored files.new).saves ≡ (S.stored files.old).saves }
-    ensures loads { LoadsFew S.note (S.stored files.old) (S.stored files.new) result }
-    ensures told { SaysWhy (X.stream err.old) (X.stream err.new) result }
+    ensures finds { FindsTurns S.note (S.stored files.old) (S.stored files.new) (X.stream err.old) (X.stream err.new) result }
     ensures lone { harts ≡ 1 → (files.new ≡ files.old) × MatchResult result (λ turns. turns ≡ Turns.OfThreads) (λ status. status ≡ Status.WordsRefused) }
     ensures bursts { (digits : List ℕ) (n : ℕ) → text.now ≡ codes "bursts:" ++ digits → number_of digits ≡ Some n → harts ≢ 1 → result ≡ Ok (Turns.Drawn Manner.Bursts n) }
     ensures sleeper { (digits : List ℕ) (n : ℕ) → text.now ≡ codes "sleeper:" ++ digits → number_of digits ≡ Some n → harts ≢ 1 → result ≡ Ok (Turns.Drawn Manner.Sleeper n) }
@@ -197,10 +194,7 @@ fn turns_for<R: Env + AllocGlobal, S: Store, X: Sink>(
     files: &mut S,
     err: &mut X,
 ) -> Result<Turns, Status>
-    ensures still { (S.stored files.new).files ≡ (S.stored files.old).files }
-    ensures saves { (S.stored files.new).saves ≡ (S.stored files.old).saves }
-    ensures loads { LoadsFew S.note (S.stored files.old) (S.stored files.new) result }
-    ensures told { SaysWhy (X.stream err.old) (X.stream err.new) result }
+    ensures finds { FindsTurns S.note (S.stored files.old) (S.stored files.new) (X.stream err.old) (X.stream err.new) result }
 {
     match env::var(rt, "ZELKUMA_SCHEDULE") {
         Ok(text) => {
@@ -228,10 +222,7 @@ pub fn turns_of<R: Env + AllocGlobal, S: Store, X: Sink>(
     err: &mut X,
 ) -> Result<Turns, Status>
     ensures unasked { (AskForTurns (command_in words.now) → ⊥) → (files.new ≡ files.old) × IsUnasked result }
-    ensures still { (S.stored files.new).files ≡ (S.stored files.old).files }
-    ensures saves { (S.stored files.new).saves ≡ (S.stored files.old).saves }
-    ensures loads { LoadsFew S.note (S.stored files.old) (S.stored files.new) result }
-    ensures told { SaysWhy (X.stream err.old) (X.stream err.new) result }
+    ensures finds { FindsTurns S.note (S.stored files.old) (S.stored files.new) (X.stream err.old) (X.stream err.new) result }
 {
     match harts_in(alloc, words) {
         Ok(Some(harts)) => turns_for(rt, alloc, harts, files, err),
