@@ -260,8 +260,8 @@ def row_of(asked: Asked, hart: str, count: str) -> Row:
 
 
 def ask_head(asked: Asked, words: Tuple[str, ...], line: str) -> None:
-    """Of a stack that was left the row that set its pointer; of a null a call that returned it; of a jump into a function's
-    middle where it led."""
+    """Of a stack that was left the row that set its pointer; of a null a call that returned it; of a jump the
+    function into whose middle it led."""
     left, null, middle = (each.fullmatch(line) for each in (LEFT_STACK, NULL, MIDDLE))
     if left:
         row = row_of(asked, left[1], left[5])
