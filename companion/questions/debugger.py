@@ -17,7 +17,7 @@ from ..recording.elf import Elf
 
 GDBS = ("gdb-multiarch", "riscv64-unknown-elf-gdb", "riscv32-unknown-elf-gdb")
 PACKAGE = "gdb-multiarch"
-PATIENCE_S = 20             # by the clock that gdb may take
+PATIENCE_S = 60             # by the clock that gdb may take, on a machine that does much else as well
 # Of gdb, whatever an ELF file says: seconds of processor time (it takes 0.4), and bytes of data (44 MB).
 MOST = {resource.RLIMIT_CPU: 5, resource.RLIMIT_DATA: 320 << 20, resource.RLIMIT_CORE: 0}
 given_up: Set[str] = set()  # ELF files of which it isn't asked any more

@@ -4,8 +4,8 @@ from __future__ import annotations
 from typing import Iterator, NamedTuple, Optional
 
 from ..recording.chunks import LOAD, STORE, touching
-from ..recording.cut import operation_of
-from ..recording.followed import Fills
+from ..recording.cut import loaded_before, operation_of
+from ..recording.followed import Begins, Fills
 from ..recording.log import SystemCall
 from ..recording.memory import Bytes, Memory, bytes_of, words_of
 from .reading import Asked
@@ -41,6 +41,7 @@ class Words:
         self.variable = variable
         self.first, self.end = variable.address & ~3, (variable.end + 3) & ~3
         self.fills = Fills(asked.log, variable.address, variable.end)
+        self.begins = Begins(asked.log)
         at_start = Memory(asked.elf, asked.is_whole)
         self.known: dict[int, Word] = {word: at_start.word(word) for word in words_of(variable.address, variable.size)}
         self.unknown = {word for word, value in self.known.items() if value is None}
@@ -50,6 +51,7 @@ class Words:
     def changes(self, text: bytes) -> Iterator[Change]:
         """The stores of a chunk, and the `read` calls in it."""
         fills = self.fills.within(text)
+        until = self.begins.place(text)
         events = [(found.end(), STORE) for found in self.stores.finditer(text)]
         if self.unknown or fills:
             events += [(found.end(), LOAD) for found in self.loads.finditer(text)]
@@ -58,10 +60,13 @@ class Words:
             while fills and fills[0][0] < at:
                 yield from self.filled(*fills.pop(0))
             word, value = int(text[at - 9:at - 1], 16) & LAST_WORD, int(text[at:at + 8], 16)
+            loaded = loaded_before(text, at) if kind == STORE else b""
+            if loaded and word in self.known:
+                self.tells(word, int(loaded, 16))
             if kind == STORE and (self.is_aligned or self.is_touched(text, at)):
                 yield Change(at, word, self.around(word), value)
             if word in self.known:
-                self.tells(word, value)
+                self.tells(word, value if at > until else None)
         for fill in fills:
             yield from self.filled(*fill)
 
@@ -74,9 +79,9 @@ class Words:
     def around(self, word: int) -> tuple[Word, Word, Word]:
         return self.known.get(word - 4), self.known.get(word), self.known.get(word + 4)
 
-    def tells(self, word: int, value: int) -> None:
+    def tells(self, word: int, value: Word) -> None:
         self.known[word] = value
-        self.unknown.discard(word)
+        (self.unknown.add if value is None else self.unknown.discard)(word)
 
     def filled(self, at: int, fill: SystemCall) -> Iterator[Change]:
         """What a `read` call did: no row tells what it put there."""

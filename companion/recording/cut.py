@@ -63,3 +63,9 @@ def last_count(text: bytes, hart: int) -> int:
     """The count of a hart's last row in a chunk, or -1."""
     at = text.rfind(b"\n%d " % hart)
     return count_of(text[at:at + LONGEST_HEAD]) if at >= 0 else -1
+
+
+def loaded_before(text: bytes, place: int) -> bytes:
+    """What an atomic loaded, as eight digits, by the place of the value that it stored: before that stands
+    `load ADDRESS=VALUE | store ADDRESS=`. Nothing of other rows: a store-conditional loads nothing."""
+    return text[place - 26:place - 18] if text.startswith(b"load ", place - 40) else b""

@@ -41,6 +41,21 @@ class Fills:
         return sorted(found)
 
 
+class Begins:
+    """Whether each hart has begun. Until then a word can hold what a lost row stored.
+
+    late    what the rows begin with of harts that haven't"""
+
+    def __init__(self, log: Log) -> None:
+        self.late = {b"\n%d " % hart for hart in log.late}
+
+    def place(self, text: bytes) -> int:
+        """The place in the next chunk from which on all have; its end, if some haven't."""
+        found = {head: text.find(head) for head in self.late}
+        self.late = {head for head, at in found.items() if at < 0}
+        return len(text) if self.late else max(found.values(), default=0)
+
+
 class FollowedMemory:
     """memory   what the rows up to a place of the latest chunk tell
     coming   the `read` calls of the rest of it, with the places behind their rows' beginnings"""

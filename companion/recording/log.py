@@ -90,6 +90,7 @@ class Log:
 
     intervals  in the log's order
     ends       {hart: its last End}
+    late       harts of which rows are lost that were done beside rows of others which the log has
     records    how many records it has
     bytes      how long the file is
     faulted    whether a hart did
@@ -103,6 +104,7 @@ class Log:
         self.intervals: list[Interval] = []
         self.called: list[Interval] = []        # those that ended by a system call, in its order
         self.ends: dict[int, End] = {}
+        self.late: set[int] = set()
         self.records = 0
         self.edge_runs: list[bytes] = []
         try:
@@ -142,7 +144,9 @@ class Log:
                 count, reason, value = struct.unpack_from("<QBI", record, 2)
                 self.ends[hart] = End(count, REASONS[reason], value)
                 interval = opened.pop(hart, None)
-                if interval:                    # the Header of the log's first End can be lost
+                if interval is None:            # the Header of a hart's first End can be lost
+                    self.late.add(hart)
+                else:
                     interval.end, interval.reason, interval.value = count, REASONS[reason], value
                     if interval.reason == CALL:
                         self.called.append(interval)

@@ -3,8 +3,8 @@ from __future__ import annotations
 
 from typing import Iterable, NamedTuple, Optional
 
-from ..recording.chunks import LOAD, STORE, chunks, rows_between, touching_any
-from ..recording.cut import cut, last_count
+from ..recording.chunks import STORE, chunks, rows_between, touching_any
+from ..recording.cut import cut, last_count, loaded_before
 from ..recording.instruction import Instruction
 from ..recording.log import Log
 from ..recording.recent import LogFile
@@ -15,11 +15,6 @@ MOST_ROWS = 80000000        # are read, as by `history`
 MOST_WORDS = 8              # are looked for
 # Rows before a store that are read for the calls over it, how many calls are told, and of how many stores: each is a replay.
 CALLS_ROWS, MOST_CALLS, MOST_WITH_CALLS = 20000, 3, 3
-
-
-# So many letters before the value that an atomic stored stand `load`, what it loaded, and
-# ` | store ADDRESS=`. A store-conditional loads nothing: its register stands there.
-LOADS, LOADED, STORING = 40, 26, 18
 
 
 class Asked(NamedTuple):
@@ -54,8 +49,7 @@ class Search:
         for at in [found.end() for found in self.pattern.finditer(text)][::-1]:
             if not wanted:
                 break
-            loaded = text[at - LOADED:at - STORING]
-            if text.startswith(LOAD, at - LOADS) and loaded == text[at:at + 8]:
+            if loaded_before(text, at) == text[at:at + 8]:
                 continue                        # an atomic that stored what it loaded gave no value
             begin, end = text.rfind(b"\n", 0, at) + 1, text.find(b"\n", at)
             row = text[begin:len(text) if end < 0 else end]

@@ -91,9 +91,11 @@ class Ended:
 
 
 class Head(NamedTuple):
-    """What a log file says beside its rows."""
+    """What a log file says beside its rows. `late`: the harts whose first interval has an End here, but no Header: its rows are
+    lost, and were done beside others that are here."""
     harts: int
     dropped: int
+    late: Set[int]
     first: Dict[int, Tuple[int, List[int]]]     # {hart: its first Header's count, its registers}
     ends: Dict[int, Ended]
 
@@ -115,6 +117,7 @@ def read_head(name: str) -> Head:
             end -= 48 + size
         records = b"".join(reversed(pieces))
     first: Dict[int, Tuple[int, List[int]]] = {}
+    late: Set[int] = set()
     ends, at = {}, 0
     while at < len(records):
         tag, hart = records[at], records[at + 1]
@@ -124,8 +127,10 @@ def read_head(name: str) -> Head:
         elif tag == END:
             count, reason, value = struct.unpack_from("<QBI", records, at + 2)
             ends[hart] = Ended(count, REASONS[reason], value)
+            if hart not in first:
+                late.add(hart)
         at += SIZES[tag]
-    return Head(harts, dropped, first, ends)
+    return Head(harts, dropped, late, first, ends)
 
 
 class Image:
@@ -228,9 +233,14 @@ class Machine:
         self.codes: Dict[str, Code] = {}
         self.harts = {hart: Hart(list(registers)) for hart, (_, registers) in self.head.first.items()}
         self.told: Dict[int, int] = {}          # the words that `joint` itself tells at the end
+        late = set(self.head.late)
+        self.begun = 0                          # the row at which each hart has begun
         for line in lines_of(self.program, "joint", self.log, self.elf):
             if line[0].isdigit():
-                self.take(self.row(line))
+                row = self.row(line)
+                self.begun = row.number if late else self.begun
+                late.discard(row.hart)
+                self.take(row)
             elif line.startswith("word "):
                 address, _, value = line[5:].partition("=")
                 self.told[int(address, 16)] = int(value, 16)

@@ -79,6 +79,8 @@ class Index:
                 known.update((row.store.address & ~3 | i, row.store.value >> 8 * i & 255) for i in range(4))
             if row.store and first < address + size and address < end:
                 found.append(Stored(row, None, first, end, old, [known[address + i] for i in range(size)]))
+            if number < self.machine.begun:     # a lost row may store there before the next one
+                known.update(dict.fromkeys(known))
         return found
 
     def touched(self, row: Row, fill: Optional[SystemCall]) -> Tuple[int, int]:

@@ -34,5 +34,5 @@ def ask_bucket(asked: Asked, _draw: random.Random) -> None:
     places = asked.program.places(row.code.pc)
     asked.same("bucket: reason", [], told["reason"], row.fault.split(" ")[0])
     if places:
-        place = f"{places[0].file}:{places[0].line}" if places[0].line else f"{row.code.pc:08x}"
+        place = f"{places[0].file}:{places[0].line}" if places[0].line else "-"
         asked.same("bucket: place", [], (told["function"], told["place"]), (places[0].function, place))

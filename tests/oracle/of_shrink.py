@@ -60,8 +60,10 @@ class Orders:
 def ask_shrink(asked: Asked) -> None:
     """Of a recording that ends with a fault."""
     short = asked.recorded.log + ".short"
-    words = [asked.recorded.book, short + ".log", short + ".book"]
-    done = asked.run("shrink", asked.recorded.log, asked.recorded.elf, *words, "--json")
+    settings = asked.recorded.settings
+    read = settings[settings.index("--input") + 1]
+    words = [asked.recorded.book, short + ".log", short + ".book", "--json", "--", "--input", read]
+    done = asked.run("shrink", asked.recorded.log, asked.recorded.elf, *words)
     if done.returncode:
         asked.differs("shrink: no answer", ["shrink", *words], done.stderr, "an answer")
         return

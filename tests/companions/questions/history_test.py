@@ -117,6 +117,28 @@ class HistoryTest(case.Case):
         self.assertIn("  before the first row: unknown\n", said)
         self.assertRegex(said, r"\n  The log gave up [\d,]+ records before its first row\.\n\Z")
 
+    def test_what_lost_rows_may_have_stored_is_unknown(self):
+        """Until each hart has a row. An atomic tells by itself what was there."""
+        options = "--harts 4 --seed 3 --limit 20000 --interval 3000 --log-size 16384"
+        log = self.record("counter", *options.split())
+        elf = self.elf("counter")
+        rows = common.rows(log, elf)
+        begun = max([row[0] for row in rows].index(str(hart)) for hart in range(4))
+        places = {(int(row[0]), int(row[1])): at for at, row in enumerate(rows)}
+        early, loaded = set(), set()
+        for word in ("000112c4", "000112c8"):
+            for entry in json.loads(self.says("history", log, elf, word, "--json", "--last", "10000"))["entries"]:
+                atomic = re.search(r"load \w+=(\w+) \| store", entry["row"])
+                if atomic:
+                    self.assertEqual(entry["old"], atomic[1], entry)
+                    loaded.add(atomic[1])
+                elif places[entry["hart"], entry["count"]] < begun:
+                    self.assertEqual(entry["old"], "unknown", entry)
+                    early.add(entry["count"])
+                else:
+                    self.assertNotEqual(entry["old"], "unknown", entry)
+        self.assertTrue(len(early) > 5 and len(loaded) > 1, (early, loaded))
+
     def test_rows_that_are_not_read_are_said(self):
         log = self.record("wild_store", "--seed", "1", "--sets", "1", "--ways", "1", "--line", "1", "--interval", "200")
         elf = self.elf("wild_store")

@@ -122,7 +122,7 @@ class HangTest(case.Case):
         """The word was stored before the rows that are read, whether the log's end holds that store or not."""
         store_it = store(0, S0)
         self.assertIn("t1 is 00000000, from 00020000, stored last in", self.flags((), store_it))
-        for rows in ("1000", "25000"):
+        for rows in ("1000", "14000"):
             said = self.flags(("--rows", rows), store_it)
             self.assertIn("t1 is 00000000, from 00020000, zero from the start, or stored before the rows that were read", said)
             self.assertNotIn("never stored", said)
