@@ -4,62 +4,58 @@ from __future__ import annotations
 import importlib
 import os
 import sys
+from typing import Any
 
 from . import streams
 from .advice import advised
 from .errors import MISSING, NO_MEMORY, REFUSED, UNREADABLE, UNWRITABLE, CompanionError
+from .help import Help
 from .options import near
 from .version import version
 
-HELP = """The companions: they show what the proved program says, in names, lines and pictures.
+HEAD = """The companions: they show what the proved program says, in names, lines and pictures.
 
     python3 companion WORD ..          (by the launcher: zelkuma WORD ..)
 
-Companions show; the program proves. `python3 companion WORD --help` tells each word."""
+Companions show; the program proves. `python3 companion WORD --help` tells each word.
+"""
 # Of each part its words. The module of a word has its name, HELP, and main(words), which gives the exit status.
 PARTS = {
-    "recording": {"names": "puts function and line behind each row"},
-    "why": {"why": "explains a crash", "output": "lists what the guest wrote"},
-    "orders": {
-        "run": "runs a program with a recording beside it",
-        "race": "groups the races of a log",
-        "seeds": "searches for turns by which a program crashes",
-        "shrink": "finds the shortest order of harts that still crashes",
-        "whatif": "tells how a run ends with one row done otherwise",
-        "recheck": "asks if a build is mended",
-        "again": "makes a recording again, with a larger log",
-    },
-    "view": {"view": "draws a log as one page"},
-    "gdb": {"gdb": "lets gdb attach to a log"},
-    "triage": {"bucket": "sorts logs by the cause of their end", "triage": "sorts the logs of folders into one table"},
-    "memory": {"memory": "tells memory errors where they happen"},
-    "questions": {
-        "history": "lists what stored to a variable",
-        "at": "tells expressions at each pass of a line",
-        "calls": "lists the calls of a function",
-        "find": "lists the places at which a value occurs",
-        "compare": "compares two logs of one program",
-        "export": "saves what a recording did for other tools",
-    },
+    "recording": "names",
+    "why": "why output",
+    "orders": "run race seeds shrink whatif recheck again",
+    "view": "view",
+    "gdb": "gdb",
+    "triage": "bucket triage",
+    "memory": "memory",
+    "questions": "history at calls find compare export",
 }
-WORDS = {word: (part, what) for part, words in PARTS.items() for word, what in words.items()}
+WORDS = {word: part for part, words in PARTS.items() for word in words.split()}
 BROKEN = 1                  # a fault of the companion itself
+
+
+def module_of(word: str) -> Any:
+    return importlib.import_module(f"..{WORDS[word]}.{word}", __package__)
+
+
+def help_of(word: str) -> Help:
+    found: Help = module_of(word).HELP
+    return found
 
 
 def run(words: list[str]) -> int:
     if not words or words[0] in ("-h", "--help", "help"):
-        streams.put(HELP + "\n\n" + "".join(f"    {word:<7} {what}\n" for word, (_, what) in WORDS.items()))
+        streams.put_lines([HEAD, *(f"    {word:<7} {help_of(word).brief}" for word in WORDS)])
         return 0 if words else REFUSED
     if words == ["--version"]:
         streams.put(f"zelkuma {version()}\n")
         return 0
     if words[0] not in WORDS:
         raise CompanionError(f"no companion is called {words[0]!r}{near(words[0], WORDS)}: {', '.join(WORDS)}", REFUSED)
-    module = importlib.import_module(f"..{WORDS[words[0]][0]}.{words[0]}", __package__)
     if words[1:] in (["-h"], ["--help"]):
-        streams.put(module.HELP + "\n")
+        streams.put(help_of(words[0]).text())
         return 0
-    status: int = module.main(words[1:])
+    status: int = module_of(words[0]).main(words[1:])
     return status
 
 

@@ -11,6 +11,7 @@ from typing import Mapping, NoReturn
 
 from ..call import streams
 from ..call.errors import UNREADABLE, CompanionError
+from ..call.help import Help
 from ..call.options import read_words, whole
 from ..call.program import NOT_BUILT
 from ..call.text import number
@@ -25,29 +26,28 @@ from .reasons import MORE_ROWS, Reasons
 from .server import Server
 from .session import begin_session
 
-HELP = """zelkuma gdb LOG ELF [--run] [--names ELF] [--at HART:IC] [--rows N] [--port N] [--end] [--trace]
-
-Lets gdb attach to a recording: harts are threads, and it goes forward and back. With --run it starts gdb itself, at the end of
-the log; else gdb starts it:
+HELP = Help(
+    "gdb LOG ELF [--run] [--names ELF] [--at HART:IC] [--rows N] [--port N] [--end] [--trace]",
+    "lets gdb step through a log, forward and back",
+    """Lets gdb attach to a recording: harts are threads, and it goes forward and back. With --run
+it starts gdb itself, at the end of the log; else gdb starts it:
 
     gdb-multiarch NAMES -ex 'target remote | zelkuma gdb LOG ELF'
 
-NAMES is the same program with its symbols and lines; ELF is the very file that was recorded, and may
-serve as both. The session begins where the log does; `continue` goes to the crash, and there
-`watch` and `reverse-continue` to the store behind it.
-
-    --run      starts gdb-multiarch, or what $ZELKUMA_GDB names; `run` starts again at the beginning
-    --names    the same program with names and lines, if ELF was stripped
-    --at       begins at a place
-    --rows N   loads the last N rows alone; with --run a million, unless it is given
-    --port N   waits on port N of this machine for one connection (`target remote :N`), and says so;
-               0 takes a free port
-    --end      begins where the log ends, which is where the program crashed
-    --trace    writes gdb's packets to err
-
-Companions show; the program proves. What gdb shows is what `debug` says of the log, and ELF of memory that
-nothing touched."""
-FORM = "gdb LOG ELF [--run] [--names ELF] [--at HART:IC] [--rows N] [--port N] [--end] [--trace]"
+NAMES is the same program with its symbols and lines; ELF is the very file that was recorded, and
+may serve as both. The session begins with the log; `continue` goes to the crash, and there
+`watch` and `reverse-continue` to the store behind it. `monitor goto HART:IC` goes to a count of a
+hart.""", {
+        "--run": "starts gdb-multiarch, or what $ZELKUMA_GDB names; `run` starts again at the "
+                 "beginning",
+        "--at": "begins at a place",
+        "--rows": "loads the last N rows alone; with --run a million, unless it is given",
+        "--port": "waits on port N of this machine for one connection (`target remote :N`), and "
+                  "says so; 0 takes a free port",
+        "--end": "begins at the end of the log, at which the program crashed",
+        "--trace": "writes gdb's packets to err",
+    },
+    "What gdb shows is what `debug` says of the log, and ELF of memory that nothing touched.")
 SETTINGS = [word for said in ("debuginfod enabled off", "architecture riscv:rv32",
                               "remotetimeout 60", "confirm off", "auto-connect-native-target off")
             for word in ("-iex", f"set {said}")]
@@ -91,7 +91,7 @@ def run_gdb(log_name: str, elf_name: str, options: Mapping[str, str]) -> NoRetur
 
 
 def main(words: list[str]) -> int:
-    (log_name, elf_name), options = read_words(words, FORM)
+    (log_name, elf_name), options = read_words(words, HELP.form)
     port = whole(options["--port"], 0, 65535, "--port") if "--port" in options else None
     at = asked_row(options["--at"], "--at") if "--at" in options else None
     with opened(log_name, elf_name, options) as asked, contextlib.ExitStack() as ends_with:

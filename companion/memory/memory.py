@@ -4,6 +4,7 @@ from __future__ import annotations
 from typing import List, Mapping
 
 from ..call.errors import FOUND, REFUSED, CompanionError
+from ..call.help import Help
 from ..call.options import AND, read_words
 from ..call.text import number
 from ..recording.answers import put_found
@@ -13,21 +14,22 @@ from .answer import Answer
 from .leaks import leaks_of
 from .run import run_of
 
-HELP = """Tells memory errors of a recorded run: each access that isn't to what its pointer was made for.
-
-    zelkuma memory LOG ELF [--alloc FN] [--free FN] [--leaks] [--names ELF] [--rows N] [--json] [--fail]
-
---alloc  FN takes memory: its first argument is the size, or its Nth with FN:N; with FN:=BYTES it always takes so many
---free   FN gives back its first argument, or its Nth with FN:N; both can be given several times
---leaks  tells the blocks that are live at the end, by the place that took them
---names  the same program with names and lines, if ELF was stripped
---rows   how many of the last rows are read, 20 million without it
---json   prints one JSON object in place of the text (docs/JSON.md)
---fail   the status is 23 if something was found
-
-C's allocators (malloc, calloc, realloc, free, ..) are known by their names. A finding is a statement by definition
-(docs/MEMORY.md); what can't be told is counted as unknown. Companions show; the program proves."""
-FORM = "memory LOG ELF [--alloc FN] [--free FN] [--leaks] [--names ELF] [--rows N] [--json] [--fail]"
+HELP = Help(
+    "memory LOG ELF [--alloc FN] [--free FN] [--leaks] [--names ELF] [--rows N] [--json] [--fail]",
+    "memory errors, each where it happens",
+    """Tells each access that isn't to what its pointer was made for, with the object, the distance
+and the callers; of a block the places that took it and gave it back. It also tells bytes that
+nobody wrote, and pointers that are none.""", {
+        "--alloc": "FN takes memory: its first argument is the size, or its Nth with FN:N; with "
+                   "FN:=BYTES it always takes so many",
+        "--free": "FN gives back its first argument, or its Nth with FN:N; both can be given "
+                  "several times",
+        "--leaks": "tells the blocks that are live at the end, by the place that took them",
+        "--rows": "how many of the last rows are read; without it 20 million",
+        "--fail": "the status is 23 if something was found",
+    },
+    """C's allocators (malloc, calloc, realloc, free, ..) are known by their names. A finding is a
+statement by definition (docs/MEMORY.md); what can't be told is counted as unknown.""")
 MOST_ROWS = 20000000        # some 20 seconds
 LARGEST_MEMORY = 64 << 20   # bytes of the guest: of each word a tag of eight bytes is kept
 
@@ -43,7 +45,7 @@ def names_in(given: Mapping[str, str], option: str) -> List[str]:
 
 
 def main(words: List[str]) -> int:
-    (log_name, elf_name), given = read_words(words, FORM)
+    (log_name, elf_name), given = read_words(words, HELP.form)
     with opened(log_name, elf_name, given) as found:
         log = found.log(MOST_ROWS)
         if log.memory > LARGEST_MEMORY:

@@ -8,6 +8,7 @@ from typing import Mapping
 from ..call import program, streams
 from ..call.files import check_regular
 from ..call.kinds import LOG, TURNS
+from ..call.help import Help
 from ..call.options import read_words, whole
 from ..call.saving import Target, target
 from ..call.text import counted, number
@@ -15,26 +16,27 @@ from ..recording.book import DIFFERS, check_book
 from ..recording.recent import LogFile
 from .record import ENDS, Quick, last_line, refusal
 
-HELP = """zelkuma again LOG ELF BOOK NEWLOG [--input FILE] [--log-size N] [--interval N]
-
-Makes a recording again by the turns of BOOK, also one of harts in threads, and saves it as NEWLOG.
+HELP = Help(
+    "again LOG ELF BOOK NEWLOG [--input FILE] [--log-size N] [--interval N]",
+    "records by BOOK's turns again, with a larger log",
+    """Makes a recording again by the turns of BOOK, also one of harts in threads, and saves it as
+NEWLOG.
 
     zelkuma again LOG buffers.elf BOOK NEWLOG --log-size 64M
 
-First `audit` has to agree that LOG is the recording of BOOK's turns. NEWLOG has LOG's settings but for those that are
-given; an input that was recorded is needed again. The summary of the new recording is printed, and then:
+First `audit` has to agree that LOG is the recording of BOOK's turns. NEWLOG has LOG's settings but
+for those that are given. The summary of the new recording is printed, and then:
 
-    turns: ..        whether its list of turns is BOOK. Full intervals end turns, and with format 2 guards do. So if
-                     they come elsewhere, the turns can be others: these are saved as NEWLOG.book
-    ends: ..         whether each hart ended as in LOG: its count, reason and value. If not, it is another run, and
-                     the status is 16
-
-    --input FILE     what the program read
-    --log-size N     how many bytes of records are kept; N may end in K, M or G
-    --interval N     how many instructions an interval has
-
-Companions show; the program proves. `audit NEWLOG ELF BOOK` tells whether NEWLOG is the recording of its turns."""
-FORM = "again LOG ELF BOOK NEWLOG [--input FILE] [--log-size N] [--interval N]"
+    turns: ..    whether its list of turns is BOOK. Full intervals end turns, and with format 2
+                 guards do. So if they come elsewhere, the turns can be others: these are saved as
+                 NEWLOG.book
+    ends: ..     whether each hart ended as in LOG: its count, reason and value. If not, it is
+                 another run, and the status is 16""", {
+        "--input": "what the program read, if it read a file",
+        "--log-size": "how many bytes of records are kept; N may end in K, M or G",
+        "--interval": "how many instructions an interval has",
+    },
+    "`audit NEWLOG ELF BOOK` tells whether NEWLOG is the recording of its turns.")
 LARGEST = 2**64 - 1                     # the program knows the ranges of its settings
 
 
@@ -86,7 +88,7 @@ def tell_ends(log: str, new_log: str) -> int:
 
 
 def main(words: list[str]) -> int:
-    (log, elf, book, output), given = read_words(words, FORM)
+    (log, elf, book, output), given = read_words(words, HELP.form)
     numbers = {name: str(whole(given[name], 1, LARGEST, name)) for name in ("--log-size", "--interval") if name in given}
     source = {"--input": given["--input"]} if "--input" in given else {}
     read = log, elf, book, *source.values()

@@ -5,6 +5,7 @@ from typing import Any, Callable, List, Optional
 
 from ..call import streams
 from ..call.errors import FOUND, CompanionError
+from ..call.help import Help
 from ..call.options import read_words, whole
 from ..call.text import counted, number
 from ..recording.answers import LONGEST, place_of, put_answer
@@ -18,28 +19,24 @@ from ..recording.trace import Trace, read_trace
 from ..why.history import History
 from .ignored import Ignored
 
-HELP = """Groups the races of a log by the two places and the word, the likeliest cause of its fault first. Words of one object
-with the same places, as an array's, are told together.
-
-    zelkuma race LOG ELF [--names ELF] [--source DIR] [--max N] [--ignore FILE] [--book BOOK] [--input FILE] [--more] [--json]
-                 [--fail]
-
---names   the program with its names and lines, if ELF was stripped
---source  shows sources below this folder too, not only below ELF's and the current one; may be given several times
---max     how many pairs are asked for at most, 1 to 1000000 (200000 without it)
---book    tells first the switches between harts, if BOOK has no more than 40 of them, as that of `zelkuma shrink`
---input   what the run read: with BOOK it is run again, to see that this is LOG's
---ignore  leaves out what a file names, a line each: an object or a word (counter, 00011450), a function (drop), a line
-          (queue.c:12), or two places with " and " between them; * is any letters, and # begins a comment
---more    tells all groups; without it the first twelve
---json    prints one JSON object in place of the text (docs/JSON.md)
---fail    the status is 23 if a group is left that no fences order
-
-First come groups on the chain of values behind the fault, then those in the function that faulted, then the others;
-behind them groups that fences order if they are meant so, and last the fenced accesses themselves: loads and stores
-beside a `fence`, as GCC writes acquire and release. That order and the grouping are this command's own judgement.
-The exact list is that of `zelkuma races`: pairs of accesses that no atomic instruction orders."""
-FORM = "race LOG ELF [--names ELF] [--source DIR] [--max N] [--ignore FILE] [--book BOOK] [--input FILE] [--more] [--json] [--fail]"
+HELP = Help(
+    "race LOG ELF [--names ELF] [--source DIR] [--max N] [--ignore FILE] [--book BOOK] "
+    "[--input FILE] [--more] [--json] [--fail]",
+    "races, grouped by the two places and the word",
+    """Groups the races of a log by the two places and the word, the likeliest cause of its fault
+first. Words of one object with the same places, as an array's, are told together.""", {
+        "--max": "how many pairs are asked for at most, 1 to 1000000; without it 200000",
+        "--ignore": "leaves out what a file names, a line each: an object or a word (counter, "
+                    "00011450), a function (drop), a line (queue.c:12), or two places with \" and "
+                    "\" between them; * is any letters, and # begins a comment",
+        "--more": "tells all groups; without it the first twelve",
+        "--fail": "the status is 23 if a group is left that no fences order",
+    },
+    """First come groups on the chain of values behind the fault, then those in the function that
+faulted, then the others. Behind them come groups that fences order, if they are meant so. Last come
+the fenced accesses themselves: loads and stores beside a `fence`, as GCC writes acquire and
+release. That order and the grouping are this command's own judgement. The exact list is that of
+`zelkuma races`: pairs of accesses that no atomic instruction orders.""")
 FAR = 1 << 20                                # what a row costs that isn't on the chain
 MOST, GROUPS_TOLD, BRIEF_TOLD = 200000, 12, 6
 KINDS = ("", ORDERED, FENCED)                # in the order in which groups are told
@@ -197,7 +194,7 @@ def access_answer(races: Races, access: RacingAccess) -> dict[str, Any]:
 
 
 def main(words: list[str]) -> int:
-    (log_name, elf_name), given = read_words(words, FORM)
+    (log_name, elf_name), given = read_words(words, HELP.form)
     most = whole(given.get("--max", str(MOST)), 1, 1000000, "--max")
     ignored = Ignored.of(given.get("--ignore", ""))
     with opened(log_name, elf_name, given) as found:

@@ -11,6 +11,7 @@ from ..call import streams
 from ..call.errors import MISSING, REFUSED, UNSURE, CompanionError
 from ..call.files import check_regular
 from ..call.kinds import LOG, TURNS
+from ..call.help import Help
 from ..call.options import parse, whole
 from ..call.saving import Target, save_together, target
 from ..call.scratch import Scratch
@@ -37,35 +38,42 @@ from .told_order import Telling
 from .tries import Tries
 from .verdict import HOLDS, MOST_TRIES, TRIES, Checked, answer, check, lines
 
-HELP = f"""Asks if a build is mended: carries the order of harts of a crash over to it, and tries orders near that.
+HELP = Help(
+    "recheck LOG ELF BOOK NEW | ORDER NEW | FOLDER --elfs DIR [--tries N] [--input FILE] "
+    "[--output N:BYTE] [--names ELF] [--old-names ELF] [--source DIR] [--order FILE] [--save NAME] "
+    "[--junit FILE] [--json]",
+    "whether a later build is mended: tries the crash's order",
+    """Asks if a build is mended: carries the order of harts of a crash over to it, and tries orders
+near that.
 
-    zelkuma recheck LOG buffers.elf BOOK NEW           is NEW, a later build, mended?
-    zelkuma recheck buffers.order NEW                  the same by an order file, as of `shrink --order`
-    zelkuma recheck FOLDER --elfs DIR                  all order files below FOLDER, each for the program of its name
+    zelkuma recheck LOG buffers.elf BOOK NEW     is NEW, a later build, mended?
+    zelkuma recheck buffers.order NEW            the same by an order file, as of `shrink --order`
+    zelkuma recheck FOLDER --elfs DIR            all order files below FOLDER, each for the program
+                                                 of its name
 
-Each switch of the shortest order is told by its access, object, function and line, and looked for in NEW. A hart that
-waits there for a lock is told, and another continues until it lets it go. If the order ends well, orders near it are tried;
-how many of as many end well in the recorded build says what that is worth. The status is
+Each switch of the shortest order is told by its access, object, function and line, and looked for
+in NEW. A hart that waits there for a lock is told, and another continues until it lets it go. If
+the order ends well, orders near it are tried; how many of as many end well in the recorded build
+says what that is worth. The status is
 
     0    it holds, as far as was tried
     10   a run ends in a fault; 11: at the limit, also with 16 times as many instructions
     25   a run ends with the wrong exit code or byte
-    24   unsure: nothing ends badly, but a switch has no place in NEW, and orders near it say too little
-
-    --tries N        so many orders near it; {TRIES} without it
-    --input FILE     what the recorded run read
-    --output N:BYTE  the end is this byte of the output, as `zelkuma output` numbers them
-    --names ELF      NEW with its names and lines, if it was stripped; --old-names ELF: those of the recorded program
-    --source DIR     shows sources below this folder too; may be given several times
-    --order FILE     saves the order of LOG as an order file, too
-    --save NAME      saves the run that ends badly as NAME.log and NAME.book
-    --elfs DIR       where the programs of a folder's orders are
-    --junit FILE     saves the results as JUnit's XML: an order is a test, and one that is unsure is an error
-    --json           prints one JSON object in place of the text (docs/ORDERS.md)
-
-docs/ORDERS.md tells how an order is written by hand. Companions show; the program proves."""
-FORM = "recheck LOG ELF BOOK NEW | ORDER NEW | FOLDER --elfs DIR [--tries N] [--input FILE] [--output N:BYTE] [--names ELF] " \
-    "[--old-names ELF] [--source DIR] [--order FILE] [--save NAME] [--junit FILE] [--json]"
+    24   unsure: nothing ends badly, but a switch has no place in NEW, and orders near it say too
+         little""", {
+        "--elfs": "where the programs of a folder's orders are",
+        "--tries": f"so many orders near it; without it {TRIES}",
+        "--input": "what the recorded run read",
+        "--output": "the end is this byte of the output, as `zelkuma output` numbers them",
+        "--names": "NEW with its names and lines, if it was stripped",
+        "--old-names": "the recorded program with its names and lines, if it was stripped",
+        "--order": "saves the order of LOG as an order file, too",
+        "--save": "saves the run that ends badly as NAME.log and NAME.book",
+        "--junit": "saves the results as JUnit's XML: an order is a test, and one that is unsure "
+                   "an error",
+        "--json": "prints one JSON object in place of the text (docs/ORDERS.md)",
+    },
+    "docs/ORDERS.md tells how an order is written by hand.")
 VALUES = "--tries --input --output --names --old-names --source --order --save --elfs --junit".split()
 OF_LOG = "--input", "--output", "--old-names", "--order"
 OF_ONE = *OF_LOG, "--names", "--save"
@@ -217,10 +225,10 @@ def status_of(results: Sequence[Result]) -> int:
 
 def main(words: List[str]) -> int:
     known = {**dict.fromkeys(VALUES, True), "--json": False}
-    names, given = parse(words, known, range(1, IN_LOG + 1), FORM)
+    names, given = parse(words, known, range(1, IN_LOG + 1), HELP.form)
     wanted = 1 if "--elfs" in given else IN_LOG if any(option in given for option in OF_LOG) else len(names)
     if len(names) != wanted or wanted not in (IN_LOG, IN_FILE, 1) or (wanted == 1 and "--elfs" not in given):
-        raise CompanionError(f"{len(names)} names are given; the words are: {FORM}", REFUSED)
+        raise CompanionError(f"{len(names)} names are given; the words are: {HELP.form}", REFUSED)
     alone = [option for option in OF_ONE if option in given]
     if wanted == 1 and alone:
         raise CompanionError(f"{alone[0]} is for one order, and can't be given with --elfs", REFUSED)

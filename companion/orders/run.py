@@ -11,30 +11,33 @@ from typing import List, Optional
 from ..call import streams
 from ..call.files import check_regular
 from ..call.kinds import LOG, TURNS
+from ..call.help import Help
 from ..call.options import decimal, parse, whole
 from ..call.saving import take_together, target
 from ..recording.recent import exit_code
 from ..why.why import brief_of
 from .record import DONE, ENDS, LIMIT, NUMBERS, RECORD_OPTIONS, SCHEDULE, Quick, last_line, refusal
 
-HELP = """Runs a program: records it, passes on what it writes and its exit code, and explains an end that isn't well.
-
-    zelkuma run ELF [-- OPTION..]
+HELP = Help(
+    "run ELF [-- OPTION..]", "runs a program, and explains a bad end",
+    """Records a program, passes on what it writes and its exit code, and explains an end that isn't
+well.
 
     zelkuma run program.elf -- --harts 4 --limit 10M
 
-OPTION are those of `record`. Without them it is --format 2, and --seed 1: the same words give the same run.
-LOG and BOOK of program.elf are program.log and program.book, beside it. Older ones are replaced.
+OPTION are those of `record`. Without them it is --format 2, and --seed 1: the same words give the
+same run. LOG and BOOK of program.elf are program.log and program.book, beside it. Older ones are
+replaced.
 
-The status is the program's exit code: of exit_group, else of hart 0. A fault is 139, as of a program that a signal ends,
-and a hart at its limit 124, as `timeout` has it. With each of these, and a code that isn't 0, err gets `why --brief`.
+The status is the program's exit code: of exit_group, else of hart 0. A fault is 139, as of a
+program that a signal ends, and a hart at its limit 124, as `timeout` has it. With each of these,
+and a code that isn't 0, err gets `why --brief`.
 
-What the program writes comes in steps: it is recorded up to a limit of a million instructions, then of eight times as many,
-and so on, and LOG says the last of these. With several harts it comes at the end: one that stops changes what others do.
-Ctrl-C (or TERM, HUP) keeps what was run: the same turns are recorded again, up to a limit just below. A second one keeps the
-last step. The status is 130 (143, 129).
-Companions show; the program proves."""
-FORM = "run ELF [-- OPTION..]"
+What the program writes comes in steps: it is recorded up to a limit of a million instructions, then
+of eight times as many, and so on, and LOG says the last of these. With several harts it comes at
+the end: one that stops changes what others do. Ctrl-C (or TERM, HUP) keeps what was run: the same
+turns are recorded again, up to a limit just below. A second one keeps the last step. The status is
+130 (143, 129).""")
 FIRST_LIMIT, STEP = 1000000, 8              # instructions; how many times as many the next recording may do
 USUAL_LIMIT, HIGHEST_LIMIT = 1000000000, 1 << 40
 LEAST_GAIN, NEARLY = 1.5, 0.9               # a recording that ends earlier than so many times the last step isn't made; of what was reached
@@ -55,7 +58,7 @@ class Run:
     """stopped  the signal that ended the last recording, or 0"""
 
     def __init__(self, words: List[str]) -> None:
-        (self.elf,), given = parse(words, RECORD_OPTIONS, ["ELF"], FORM)
+        (self.elf,), given = parse(words, RECORD_OPTIONS, ["ELF"], HELP.form)
         given = {name: decimal(value) if name in NUMBERS else value for name, value in given.items()}
         self.limit = whole(given.pop("--limit", str(USUAL_LIMIT)), 1, HIGHEST_LIMIT, "--limit")
         self.has_one_hart = given.get("--harts", "1") == "1"

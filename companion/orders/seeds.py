@@ -8,6 +8,7 @@ from typing import Mapping, Optional, Sequence
 from ..call import streams
 from ..call.errors import FOUND, NO_INTERVAL, NOT_FOUND, REFUSED, CompanionError
 from ..call.kinds import LOG, TURNS
+from ..call.help import Help
 from ..call.options import read_words, whole
 from ..call.saving import Target, target
 from ..call.text import number
@@ -20,48 +21,56 @@ from .shrinking import ShrinkInput, Shrunk, shrink
 from .trials import MOST_KEPT, Count, Ending, Numbers, TrialSearch
 from .wanted import Wanted, wanted_of
 
-HELP = """zelkuma seeds [-j N] [--until END] [--only KIND,..] [--all DIR] [--part K/N] [--shrink] [--compare] [--json] [--fail]
-              FROM TO -- RECORD-WORDS
-
-Records a program by one order of turns after another, on all processors, until a run ends as wanted.
+HELP = Help(
+    "seeds [-j N] [--until END] [--only KIND,..] [--all DIR] [--part K/N] [--shrink] [--compare] "
+    "[--json] [--fail] FROM TO -- RECORD-WORDS",
+    "records with each number's turns; keeps the first hit",
+    """Records a program by one order of turns after another, on all processors, until a run ends as
+wanted.
 
     zelkuma seeds 1 1000 -- --harts 4 buffers.elf LOG BOOK
 
-RECORD-WORDS are those of `record` but for --seed. Of each number from FROM to TO all kinds of turns are tried:
+RECORD-WORDS are those of `record` but for --seed. Of each number from FROM to TO all kinds of turns
+are tried:
 
     seeds            a hart is drawn for each turn
     bursts           one hart keeps its turns for a while, then another is drawn
     sleepers         one hart takes no turn for a while
     threads          no number draws them: the harts run side by side
 
-LOG and BOOK are those of the first run that ends as END says; if a number draws its turns, no lower one does.
-Its kind and number are printed, and the command that makes it again. A table tells how the runs up to it ended: status,
-count, the first of them, and of a fault the line of `bucket`. If none ends so, nothing is saved, and the status is 22.
-Ctrl-C (or TERM, HUP) ends the search: the table is printed, what was found is kept, and the status is 130 (143, 129).
-
-    -j N             so many recordings at a time; without it, as many as there are processors
-    --until END      10 (a fault), which it is without it; 11 (a hart came to the limit), 0 (done), exit:N (done, with this exit code),
-                     output:TEXT (the program wrote this), or bad (10, 11, or an exit code but 0)
-    --only KIND,..   these kinds alone. Without it runs in threads are left out with --all, and for 11 and bad, since a slow
-                     run isn't a hang; that is said
-    --all DIR        makes all runs, and saves LOG and BOOK of the first with each ending in DIR, as KIND-NUMBER.log and .book;
-                     an ending is a line of the table. RECORD-WORDS end with ELF then
-    --part K/N       every Nth number alone, from the Kth on: the parts 1/N to N/N together are all numbers
-    --shrink         does what `zelkuma shrink` does with what was found: LOG and BOOK are those of the short run
-    --compare        does that, moves one switch of the short run as far as it takes for a run that ends well, saves that as
-                     LOG.good and BOOK.good, and does what `zelkuma compare` does with both
-    --fail           for a gate: the status is 23 if a run is found, or with --all one that ended badly, and else 0
-    --json           prints one JSON object in place of the text (docs/JSON.md)
-
-One recording in threads is under way at a time, and the others wait for it. One that spins on a busy machine takes long:
-give a --limit.
-Numbers may end in K, M or G. Trials are saved beside LOG and BOOK, in folders that are taken away again.
+LOG and BOOK are those of the first run that ends as END says; if a number draws its turns, no lower
+one does. Its kind and number are printed, and the command that makes it again. A table tells how
+the runs up to it ended: status, count, the first of them, and of a fault the line of `bucket`. If
+none ends so, nothing is saved, and the status is 22. Ctrl-C (or TERM, HUP) ends the search: the
+table is printed, what was found is kept, and the status is 130 (143, 129).""", {
+        "-j": "so many recordings at a time; without it, as many as there are processors",
+        "--until": "10 (a fault), which it is without it; 11 (a hart came to the limit), 0 "
+                   "(done), exit:N (done, with this exit code), output:TEXT (the program wrote "
+                   "this), or bad (10, 11, or an exit code but 0)",
+        "--only": "these kinds alone. Without it runs in threads are left out with --all, and for "
+                  "11 and bad, since a slow run isn't a hang; that is said",
+        "--all": "makes all runs, and saves LOG and BOOK of the first with each ending in DIR, as "
+                 "KIND-NUMBER.log and .book; an ending is a line of the table. RECORD-WORDS end "
+                 "with ELF then",
+        "--part": "every Nth number alone, from the Kth on: the parts 1/N to N/N together are all "
+                  "numbers",
+        "--shrink": "does what `zelkuma shrink` does with what was found: LOG and BOOK are those "
+                    "of the short run",
+        "--compare": "does that, moves one switch of the short run as far as it takes for a run "
+                     "that ends well, saves that as LOG.good and BOOK.good, and does what "
+                     "`zelkuma compare` does with both",
+        "--fail": "for a gate: the status is 23 if a run is found, or with --all one that ended "
+                  "badly, and else 0",
+    },
+    """One recording in threads is under way at a time, and the others wait for it. One that spins
+on a busy machine takes long: give a --limit. Numbers may end in K, M or G. Trials are saved beside
+LOG and BOOK, in folders that are taken away again.
 
 Over machines, each of which has a part; `triage` joins what they found:
 
-    parallel --sshloginfile MACHINES zelkuma seeds --all found/{} --part {}/8 1 1000 -- program.elf ::: 1 2 3 4 5 6 7 8
-    zelkuma triage found --elfs ."""
-FORM = "seeds [-j N] [--until END] [--only KIND,..] [--all DIR] [--part K/N] [--shrink] [--compare] [--json] [--fail] FROM TO -- RECORD-WORDS"
+    parallel --sshloginfile MACHINES \\
+        zelkuma seeds --all found/{} --part {}/8 1 1000 -- program.elf ::: 1 2 3 4 5 6 7 8
+    zelkuma triage found --elfs .""")
 KINDS = {"seeds": Kind.SEED, "bursts": Kind.BURSTS, "sleepers": Kind.SLEEPER, "threads": Kind.THREADS}
 HEAD = "status", "count", "first", "place"
 LAST_NUMBER = 2**64 - 1
@@ -234,8 +243,8 @@ def check_shrinks(asked: str, record: RecordWords, wanted: Optional[Wanted]) -> 
 def main(words: list[str]) -> int:
     own, rest = split(words)
     if "--" not in words:
-        raise CompanionError(f"the options of record stand behind --, with ELF LOG BOOK; the words are: {FORM}", REFUSED)
-    (low, high), options = read_words(own, FORM, "--jobs")
+        raise CompanionError(f"the options of record stand behind --, with ELF LOG BOOK; the words are: {HELP.form}", REFUSED)
+    (low, high), options = read_words(own, HELP.form, "--jobs")
     numbers, wanted = numbers_of(low, high, options.get("--part", "1/1")), until_of(options)
     record = RecordWords(rest, options.get("--all", ""))
     shrinks = "--compare" if "--compare" in options else "--shrink" if "--shrink" in options else ""

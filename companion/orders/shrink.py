@@ -8,6 +8,7 @@ from ..call import streams
 from ..call.errors import REFUSED, UNREADABLE, CompanionError
 from ..call.files import check_regular
 from ..call.kinds import INPUT, LOG, TURNS
+from ..call.help import Help
 from ..call.options import decimal, parse, read_words, whole
 from ..call.saving import target
 from ..recording.answers import put_answer
@@ -24,38 +25,39 @@ from .same_end import exit_code
 from .shrinking import ShrinkInput, Shrunk, shrink
 from .shrinking_input import Asked, ShrunkInput, shrink_input
 
-HELP = """zelkuma shrink LOG ELF BOOK NEWLOG NEWBOOK [--seconds N] [--output N:BYTE] [--names ELF] [--source DIR] [--order FILE] [--json] [-- WORD..]
-
-Finds the shortest order of harts that still ends as LOG does, and saves a recording of it as NEWLOG and NEWBOOK.
+HELP = Help(
+    "shrink LOG ELF BOOK NEWLOG NEWBOOK | NEW --input FILE [--says TEXT] [--seconds N] "
+    "[--output N:BYTE] [--names ELF] [--source DIR] [--order FILE] [--json] [-- WORD..]",
+    "finds the shortest order, or input, that ends as LOG",
+    """Finds the shortest order of harts that still ends as LOG does, and saves a recording of it as
+NEWLOG and NEWBOOK.
 
     zelkuma shrink LOG buffers.elf BOOK SHORT SHORT.book
 
-A run ends the same if the same fault comes at the same place with the same callers; if the same harts come to the limit,
-and wait for the same words; or if the exit code is the same, and not 0. The order is printed as pieces,
-hartxturns, and then its switches: who stops where, who continues where, and what that does to a word that was loaded.
-
-    --seconds N      ends the search after so long; what it has by then is saved
-    --output N:BYTE  a run ends the same if this byte of the output is the same, as `zelkuma output` numbers them
-    --names ELF      the program with its names and lines, if ELF was stripped
-    --source DIR     shows sources below this folder too, not only below ELF's and the current one; may be given several times
-    --order FILE     saves the order by lines and objects as well: a test of later builds (`zelkuma recheck FILE NEW`)
-    --json           prints one JSON object in place of the text (docs/JSON.md)
-    -- WORD..        options of `record`: --input FILE is needed if LOG has one; others have to be those of LOG
+A run ends the same if the same fault comes at the same place with the same callers. So it does if
+the same harts come to the limit and wait for the same words, or if the exit code is the same, and
+not 0. The order is printed as pieces, hartxturns, and then its switches: who stops where, who
+continues where, and what that does to a word that was loaded. WORD are options of `record`: --input
+is needed if LOG has one; others have to be those of LOG.
 
 With one hart the input is shrunk in place of the order:
 
-    zelkuma shrink LOG ELF NEW --input FILE [--says TEXT] [--seconds N] [--names ELF] [--source DIR] [--json]
+    zelkuma shrink LOG ELF NEW --input FILE
 
-FILE is what LOG's run read. NEW is the shortest that is found by which the run still ends as LOG does: the same fault,
-and not near 0 if LOG's isn't; the same loop at the limit; or the same exit code, if it isn't 0. Pieces are left out, and what is
-left is made plain: digits 0, letters a.
-
-    --says TEXT      a run ends the same if it writes this text, and its exit code is the same
-
-The answer is the same on each machine. Ctrl-C, TERM and HUP end the search (130, 143, 129): the shortest that
-was found is saved. BOOK has to be LOG's, as `audit` says. Companions show; the program proves."""
-FORM = "shrink LOG ELF BOOK NEWLOG NEWBOOK | NEW --input FILE [--says TEXT] [--seconds N] [--output N:BYTE] [--names ELF] " \
-    "[--source DIR] [--order FILE] [--json] [-- WORD..]"
+NEW is the shortest that is found by which the run still ends as LOG does. That is the same fault,
+and not near 0 if LOG's isn't, the same loop at the limit, or the same exit code, if it isn't 0.
+Pieces are left out, and what is left is made plain: digits 0, letters a.""", {
+        "--input": "with one hart: what LOG's run read",
+        "--says": "with one hart: a run ends the same if it writes this text, and its exit code "
+                  "is the same",
+        "--seconds": "ends the search after so long; what it has by then is saved",
+        "--output": "a run ends the same if this byte of the output is the same, as `zelkuma "
+                    "output` numbers them",
+        "--order": "saves the order by lines and objects as well: a test of later builds "
+                   "(`zelkuma recheck FILE NEW`)",
+    },
+    """The answer is the same on each machine. Ctrl-C, TERM and HUP end the search (130, 143, 129):
+the shortest that was found is saved. BOOK has to be LOG's, as `audit` says.""")
 INPUT_FORM = "shrink LOG ELF NEW --input FILE [--says TEXT] [--seconds N] [--names ELF] [--source DIR] [--json]"
 ORDER_FORM = "shrink LOG ELF BOOK NEWLOG NEWBOOK [--seconds N] [--output N:BYTE] [--names ELF] [--source DIR] [--order FILE] [--json] [-- WORD..]"
 LONGEST_SEARCH = 1 << 20    # seconds

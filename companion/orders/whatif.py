@@ -11,6 +11,7 @@ from typing import Any, Dict, Iterator, List, Mapping, NamedTuple, Optional, Seq
 from ..call import streams
 from ..call.errors import REFUSED, CompanionError
 from ..call.files import check_regular
+from ..call.help import Help
 from ..call.options import read_words
 from ..call.scratch import Scratch
 from ..call.text import counted, number
@@ -30,25 +31,26 @@ from .patch import PLACE, Execution, NewCode, patched, unnamed_registers
 from .record import ENDS, Quick, refusal
 from .shrinking import memory_folder
 
-HELP = """Tells how a run would have ended if one row had been done otherwise.
-
-    zelkuma whatif LOG ELF BOOK HART:IC --skip | --turn | --set VALUE [--input FILE] [--names ELF] [--json]
-
---skip   its store isn't done
---turn   its branch goes the other way
---set    its register gets VALUE: a number, an address of eight digits, or a symbol
+HELP = Help(
+    "whatif LOG ELF BOOK HART:IC --skip | --turn | --set VALUE [--input FILE] [--names ELF] "
+    "[--json]",
+    "how the run ends if one row is done otherwise",
+    """Tells how a run would have ended if one row had been done otherwise.
 
     zelkuma whatif LOG heap.elf BOOK 0:33817 --skip
 
-A copy of the program is recorded by BOOK's turns, in which this execution alone is done otherwise. It has the same accesses to
-memory, so the order stays. That is checked: up to the row the accesses of all harts have to be those of LOG. If not, it says
-UNSOUND, and the status is 16.
+A copy of the program is recorded by BOOK's turns, in which this execution alone is done otherwise.
+It has the same accesses to memory, so the order stays. That is checked: up to the row the accesses
+of all harts have to be those of LOG. If not, it says UNSOUND, and the status is 16.
 
-A run that ends well then shows that the row was needed for the crash, not that it is wrong. LOG has to hold its whole run, of
-no more than 4 million rows; a run that read a file needs it again (--input). Calls, jumps and atomics can't be changed, nor can
-rows of a program whose code names all registers. --names is the same program with names and lines, if ELF was stripped.
---json prints one JSON object in place of the text (docs/JSON.md). Companions show; the program proves."""
-FORM = "whatif LOG ELF BOOK HART:IC --skip | --turn | --set VALUE [--input FILE] [--names ELF] [--json]"
+A run that ends well then shows that the row was needed for the crash, not that it is wrong.""", {
+        "--skip": "its store isn't done",
+        "--turn": "its branch goes the other way",
+        "--set": "its register gets VALUE: a number, an address of eight digits, or a symbol",
+        "--input": "what the run read, if it read a file",
+    },
+    """LOG has to hold its whole run, of no more than 4 million rows. Calls, jumps and atomics can't
+be changed, nor can rows of a program whose code names all registers.""")
 MOST_ROWS, LONGEST_INTERVAL = 4000000, 10000000
 MORE_ROWS = 64              # at most so many instructions take the place of one
 MOST_TESTS = 3              # registers by which a hart is told from the others
@@ -266,9 +268,9 @@ def answer(found: Opened, log: Log, book: str, at: At, given: Mapping[str, str])
 
 
 def main(words: list[str]) -> int:
-    (log_name, elf_name, book, row), given = read_words(words, FORM)
+    (log_name, elf_name, book, row), given = read_words(words, HELP.form)
     if sum(option in given for option in ACTIONS) != 1:
-        raise CompanionError(f"one of {', '.join(ACTIONS)} has to be given; the words are: {FORM}", REFUSED)
+        raise CompanionError(f"one of {', '.join(ACTIONS)} has to be given; the words are: {HELP.form}", REFUSED)
     at, source = asked_row(row, "the row"), given.get("--input", "")
     check_regular(log_name, elf_name, book, source)
     with opened(log_name, elf_name, given) as found:

@@ -7,6 +7,7 @@ from dataclasses import dataclass
 from typing import Any, Deque, Iterator, List, Sequence
 
 from ..call.errors import REFUSED, CompanionError
+from ..call.help import Help
 from ..call.options import read_words, whole
 from ..call.text import clean, columns, counted, number
 from ..recording.answers import LONGEST, place_of, put_found
@@ -14,25 +15,23 @@ from .bytecode import Unknown
 from .expressions import Compiled, Expression, Pass, Values, compiled
 from .reading import Asked, asked_of, read
 
-HELP = """Tells what C expressions were at each pass of a line: a print after the fact.
-
-    zelkuma at LOG ELF FILE:LINE EXPR.. [--if COND] [--names ELF] [--last N] [--rows N] [--json]
+HELP = Help(
+    "at LOG ELF FILE:LINE EXPR.. [--if COND] [--names ELF] [--last N] [--rows N] [--json]",
+    "what C expressions were at each pass of a line",
+    """Tells what C expressions were at each pass of a line: a print after the fact.
 
     zelkuma at LOG filters.elf filters.c:68 filter '*filter' 'current->users'
 
-An expression is C with the names that the line sees: no call, no assignment; `$a0` is a register. Its value is the one before
-the line's first instruction, where gdb's `break` would stop. If the line begins at several places, all are told.
-
---if       tells the passes alone at which this expression isn't 0
---names    the same program with names and lines, if ELF was stripped
---last     how many of the latest passes are told, 100 without it
---rows     how many of the last rows are read, 80 million without it; 8 million if memory is read that can be over 8 MiB
---json     prints one JSON object in place of the text (docs/JSON.md)
-
-What gdb or the rows don't tell is told as <optimized out>, or so. Rows are in the order of `joint`: of a word that this hart
-doesn't access, other legal orders can have other values. It needs gdb (gdb-multiarch, or what $ZELKUMA_GDB names).
-Companions show; the program proves."""
-FORM = "at LOG ELF FILE:LINE EXPR.. [--if COND] [--names ELF] [--last N] [--rows N] [--json]"
+An expression is C with the names that the line sees: no call, no assignment; `$a0` is a register.
+Its value is the one before the line's first instruction, where gdb's `break` would stop. If the
+line begins at several places, all are told.""", {
+        "--if": "tells the passes alone at which this expression isn't 0",
+        "--rows": "how many of the last rows are read; without it 80 million, or 8 million if "
+                  "memory is read that can be over 8 MiB",
+    },
+    """What gdb or the rows don't tell is told as <optimized out>, or so. Rows are in the order of
+`joint`: of a word that this hart doesn't access, other legal orders can have other values. It needs
+gdb (gdb-multiarch, or what $ZELKUMA_GDB names).""")
 TOLD, MOST_TOLD = 100, 1000000      # passes; values
 FILE_LINE = 2                       # which name it is
 
@@ -130,9 +129,9 @@ def at_answer(found: Passes) -> dict[str, Any]:
 
 
 def main(words: list[str]) -> int:
-    names, given = read_words(words, FORM)
+    names, given = read_words(words, HELP.form)
     if len(names) < FILE_LINE + 2:
-        raise CompanionError(f"an expression is missing; the words are: {FORM}", REFUSED)
+        raise CompanionError(f"an expression is missing; the words are: {HELP.form}", REFUSED)
     log_name, elf_name, line, *texts = names
     most = whole(given.get("--last", str(TOLD)), 1, MOST_TOLD // len(texts), "--last")
     with asked_of(log_name, elf_name, given, keeps_words=True) as asked:

@@ -8,6 +8,7 @@ from dataclasses import dataclass, field
 from typing import Any, Callable, Deque, Dict, Iterator, List, Mapping, NamedTuple, Optional, Sequence, Union
 
 from ..call.errors import REFUSED, CompanionError
+from ..call.help import Help
 from ..call.options import read_words, whole
 from ..call.text import clean, columns, counted
 from ..recording.answers import place_of, put_found
@@ -25,20 +26,16 @@ from .types import Leaf, Type, signed, value_text
 from .variables import ADDRESS
 from .window import Window
 
-HELP = """Lists each call of a function: hart and count, its arguments and its result, how long it ran, and from where.
-
-    zelkuma calls LOG ELF FUNCTION [--names ELF] [--where 'ARG==VALUE'] [--last N] [--rows N] [--json]
-
---names  the same program with names and lines, if ELF was stripped
---where  only calls whose argument, or whose result, compares so: == != < <= > >=, and `result` is the result's name
---last   how many of the latest are told, 100 without it
---rows   how many of the last rows are read, 80 million without it
---json   prints one JSON object in place of the text (docs/JSON.md)
-
-Arguments have names and types if gdb tells them (gdb-multiarch, or what $ZELKUMA_GDB names), else they are a0 to a7.
-An inlined call has neither arguments nor a result. How long a call ran is in instructions of its hart.
-Companions show; the program proves."""
-FORM = "calls LOG ELF FUNCTION [--names ELF] [--where ARG==VALUE] [--last N] [--rows N] [--json]"
+HELP = Help(
+    "calls LOG ELF FUNCTION [--names ELF] [--where ARG==VALUE] [--last N] [--rows N] [--json]",
+    "each call of a function: arguments, result, how long",
+    """Lists each call of a function: hart and count, its arguments and its result, how long it ran,
+and from where.""",
+    {"--where": "only calls whose argument, or whose result, compares so: == != < <= > >=, and "
+                "`result` is the result's name: 'size>100'"},
+    """Arguments have names and types if gdb tells them (gdb-multiarch, or what $ZELKUMA_GDB names),
+else they are a0 to a7. An inlined call has neither arguments nor a result. How long a call ran is
+in instructions of its hart.""")
 TOLD, MOST_TOLD, MOST_FRAMES = 100, 1000000, 3
 WHERE = re.compile(r"\s*(\w+)\s*(==|!=|<=|>=|<|>)\s*(-?\w+)\s*")
 COMPARE: dict[str, Callable[[int, int], bool]] = {"==": operator.eq, "!=": operator.ne, "<": operator.lt, "<=": operator.le,
@@ -411,7 +408,7 @@ def calls_of(asked: Asked, function: Function, most: int = TOLD, where: Optional
 
 
 def main(words: list[str]) -> int:
-    (log_name, elf_name, name), given = read_words(words, FORM)
+    (log_name, elf_name, name), given = read_words(words, HELP.form)
     most = whole(given.get("--last", str(TOLD)), 1, MOST_TOLD, "--last")
     with asked_of(log_name, elf_name, given) as asked:
         function = function_of(asked.named, name)

@@ -6,6 +6,7 @@ from dataclasses import dataclass, field
 from typing import Any, Dict, Iterable, Iterator, List, Mapping, NamedTuple, Optional
 
 from ..call.errors import NO_INTERVAL, CompanionError
+from ..call.help import Help
 from ..call.options import read_words, whole
 from ..call.text import counted, number
 from ..recording.answers import place_of, put_found
@@ -20,19 +21,16 @@ from .waiting import Loops
 from .ways import Lane
 from .words import Words
 
-HELP = """Compares two logs of one program, as of two seeds or two inputs: of each hart the first branch that went another way
-though all was the same before, the load behind it, and who had stored that word in each run.
-
-    zelkuma compare GOOD BAD ELF [--names ELF] [--source DIR] [--rows N] [--json]
-
---names   the same program with names and lines, if ELF was stripped
---source  shows sources below this folder too, not only below ELF's and the current one; may be given several times
---rows    how many of the first rows of each log are read, 15 million without it
---json    prints one JSON object in place of the text (docs/JSON.md)
-
-What a hart does while it waits, in a loop that loads but stores and counts nothing, is no difference. Harts come in the order
-in which they parted in BAD. A log that has lost its beginning can't be compared. Companions show; the program proves."""
-FORM = "compare GOOD BAD ELF [--names ELF] [--source DIR] [--rows N] [--json]"
+HELP = Help(
+    "compare GOOD BAD ELF [--names ELF] [--source DIR] [--rows N] [--json]",
+    "the first branch at which two logs of a program differ",
+    """Compares two logs of one program, as of two seeds or two inputs. Of each hart it tells the
+first branch that went another way though all was the same before, the load behind it, and who had
+stored that word in each run.""",
+    {"--rows": "how many of the first rows of each log are read; without it 15 million"},
+    """What a hart does while it waits, in a loop that loads but stores and counts nothing, is no
+difference. Harts come in the order in which they parted in BAD. A log that has lost its beginning
+can't be compared.""")
 MOST_ROWS, LOOKED_BACK, READ_BACK, MOST_FRAMES = 15000000, 4000, 500, 3
 LOADED, STORED = "load ", "store "         # how what a row did begins
 
@@ -298,7 +296,7 @@ def check(runs: Iterable[Asked]) -> None:
 
 
 def main(words: list[str]) -> int:
-    (good, bad, elf_name), given = read_words(words, FORM)
+    (good, bad, elf_name), given = read_words(words, HELP.form)
     most = whole(given.get("--rows", str(MOST_ROWS)), 1, HIGHEST, "--rows")
     files = {option: given[option] for option in ("--names", "--source") if option in given}
     with compared(good, bad, elf_name, files, most) as found:

@@ -6,6 +6,7 @@ from typing import Callable, Dict
 from ..call import streams
 from ..call.errors import REFUSED, CompanionError
 from ..call.kinds import CORE, text_kind
+from ..call.help import Help
 from ..call.options import read_words
 from ..call.saving import target
 from ..call.text import number
@@ -16,20 +17,19 @@ from .lcov import lcov
 from .perfetto import perfetto
 from .reading import Asked, asked_of
 
-HELP = """Saves what a recording did for other tools.
-
-    zelkuma export LOG ELF --callgrind FILE | --lcov FILE | --perfetto FILE | --core FILE [--row HART:IC]
-                   [--names ELF] [--rows N]
-
---callgrind  instructions by function and line, and calls with theirs: kcachegrind, callgrind_annotate
---lcov       how often each line was done: genhtml
---perfetto   the harts with their functions, waits, Edges and faults, in the order of `joint`: ui.perfetto.dev
---core       an ELF core file of the end, or of the place before a row (--row): each hart is a thread: gdb ELF FILE
---names      the same program with names and lines, if ELF was stripped
---rows       how many of the last rows are read, 80 million without it
-
-FILE is overwritten if it is such a file. Companions show; the program proves."""
-FORM = "export LOG ELF --callgrind FILE | --lcov FILE | --perfetto FILE | --core FILE [--row HART:IC] [--names ELF] [--rows N]"
+HELP = Help(
+    "export LOG ELF --callgrind FILE | --lcov FILE | --perfetto FILE | --core FILE [--row HART:IC] "
+    "[--names ELF] [--rows N]",
+    "saves a recording for kcachegrind, genhtml, Perfetto or gdb",
+    """Saves what a recording did for other tools. FILE is overwritten if it is such a file.""", {
+        "--callgrind": "instructions by function and line, and calls with theirs: kcachegrind",
+        "--lcov": "how often each line was done: genhtml",
+        "--perfetto": "the harts with their functions, waits, Edges and faults, in the order of "
+                      "`joint`: ui.perfetto.dev",
+        "--core": "an ELF core file, for gdb and whatever else reads one: the harts are its "
+                  "threads, and its memory is what the rows tell; what is unknown is said",
+        "--row": "of --core: the place before this row; without it the end",
+    })
 Maker = Callable[[Asked], str]
 ROW = "--row"
 MAKERS: Dict[str, Maker] = {"--callgrind": callgrind, "--lcov": lcov, "--perfetto": perfetto}
@@ -41,13 +41,13 @@ KINDS = {**{option: text_kind(f"a file of export {option}", *known) for option, 
 
 
 def main(words: list[str]) -> int:
-    (log_name, elf_name), given = read_words(words, FORM)
+    (log_name, elf_name), given = read_words(words, HELP.form)
     chosen = [option for option in KINDS if option in given]
     if len(chosen) != 1:
-        raise CompanionError(f"one of {', '.join(KINDS)} has to be given; the words are: {FORM}", REFUSED)
+        raise CompanionError(f"one of {', '.join(KINDS)} has to be given; the words are: {HELP.form}", REFUSED)
     option = chosen[0]
     if ROW in given and option != "--core":
-        raise CompanionError(f"--row is of --core alone; the words are: {FORM}", REFUSED)
+        raise CompanionError(f"--row is of --core alone; the words are: {HELP.form}", REFUSED)
     row = asked_row(given[ROW]) if ROW in given else None
     saved = target(given[option], KINDS[option], [log_name, elf_name, given.get("--names", "")])
     with asked_of(log_name, elf_name, given, keeps_words=option == "--core") as asked:

@@ -6,6 +6,7 @@ from dataclasses import dataclass, field
 from typing import Any
 
 from ..call.errors import MISSING, REFUSED, CompanionError
+from ..call.help import Help
 from ..call.options import read_words
 from ..call.text import clean, columns, counted, number
 from ..recording.answers import LONGEST, place_of, put_found
@@ -15,20 +16,16 @@ from ..recording.elf import Elf
 from .reading import Asked, asked_of, read
 from .variables import ADDRESS, OFFSET, not_found, symbol_of, variable_of
 
-HELP = """Lists the places of the program at which a value occurs, in registers and in words of memory.
+HELP = Help(
+    "find LOG ELF VALUE [--names ELF] [--rows N] [--json]",
+    "places at which a value occurs, first and last time",
+    """Lists the places of the program at which a value occurs, in registers and in words of memory.
 
-    zelkuma find LOG ELF VALUE [--names ELF] [--rows N] [--json]
-
-VALUE is a number, hexadecimal if it has eight digits or begins with 0x, or an address: that of a symbol (`arena`, `arena+56`) or
-of a variable's part (`&orders[3]`). Of each place it tells the first and the last time, how often, and what it did with the
-value: put it into a register, loaded it or stored it.
-
---names  the same program with names and lines, if ELF was stripped
---rows   how many of the last rows are read, 80 million without it
---json   prints one JSON object in place of the text (docs/JSON.md)
-
-A word that holds the value while no row touches it isn't seen. Companions show; the program proves."""
-FORM = "find LOG ELF VALUE [--names ELF] [--rows N] [--json]"
+VALUE is a number, hexadecimal if it has eight digits or begins with 0x, or an address: that of a
+symbol (`arena`, `arena+56`) or of a variable's part (`&orders[3]`). Of each place it tells the
+first and the last time, how often, and what it did with the value: put it into a register, loaded
+it or stored it.""",
+    more="A word that holds the value while no row touches it isn't seen.")
 MOST_ROWS = 2000000         # with the value are told by place; of the others only the number is told
 TOLD, MOST_FRAMES, MOST_WORDS = 100, 3, 3
 VERBS = {b"load ": "loads it from", b"store": "stores it to"}
@@ -147,7 +144,7 @@ def find_answer(found: Found) -> dict[str, Any]:
 
 
 def main(words: list[str]) -> int:
-    (log_name, elf_name, text), given = read_words(words, FORM)
+    (log_name, elf_name, text), given = read_words(words, HELP.form)
     with asked_of(log_name, elf_name, given) as asked:
         found = Found(asked, value_of(asked.named, text))
         read(asked.chunks(), found)

@@ -6,6 +6,7 @@ from collections import deque
 from dataclasses import dataclass
 from typing import Any, Deque, List, NamedTuple, Optional
 
+from ..call.help import Help
 from ..call.options import read_words, whole
 from ..call.text import columns, counted
 from ..recording.answers import place_of, put_found
@@ -20,22 +21,17 @@ from .types import Leaf, leaves, value_text
 from .variables import Variable, variable_of
 from .words import Change, Words
 
-HELP = """Lists each store to a variable: hart and count, the value before and after it, its place and the calls over it.
+HELP = Help(
+    "history LOG ELF NAME [--names ELF] [--changes] [--last N] [--rows N] [--json]",
+    "each store to a variable, with its values and callers",
+    """Lists each store to a variable: hart and count, the value before and after it, its place and
+the calls over it; of `read` calls how much they put there.
 
-    zelkuma history LOG ELF NAME [--names ELF] [--changes] [--last N] [--rows N] [--json]
-
-NAME is a variable or a part of it (`orders[3].amount`), a symbol, a symbol and an offset (`arena+56`), or an address;
-behind the last two a length can stand (`00011b60:4`).
-
---names    the same program with names and lines, if ELF was stripped
---changes  only stores that change it
---last     how many of the latest are told, 100 without it
---rows     how many of the last rows are read, 80 million without it
---json     prints one JSON object in place of the text (docs/JSON.md)
-
-Types and parts are gdb's (gdb-multiarch, or what $ZELKUMA_GDB names). Rows are in the order of `joint`.
-Companions show; the program proves."""
-FORM = "history LOG ELF NAME [--names ELF] [--changes] [--last N] [--rows N] [--json]"
+NAME is a variable or a part of it (`orders[3].amount`), a symbol, a symbol and an offset
+(`arena+56`), or an address; behind the last two a length can stand (`00011b60:4`).""",
+    {"--changes": "only stores that change it"},
+    """Types and parts are gdb's (gdb-multiarch, or what $ZELKUMA_GDB names). Rows are in the order
+of `joint`.""")
 TOLD, MOST_TOLD, MOST_FRAMES, LARGEST = 100, 1000000, 4, 8
 
 
@@ -158,7 +154,7 @@ def history_of(asked: Asked, variable: Variable, most: int = TOLD, only_changes:
 
 
 def main(words: list[str]) -> int:
-    (log_name, elf_name, name), given = read_words(words, FORM)
+    (log_name, elf_name, name), given = read_words(words, HELP.form)
     most = whole(given.get("--last", str(TOLD)), 1, MOST_TOLD, "--last")
     with asked_of(log_name, elf_name, given) as asked:
         found = history_of(asked, variable_of(asked.named, name), most, "--changes" in given)

@@ -8,19 +8,21 @@ from typing import Callable
 
 from ..call import streams
 from ..call.errors import MISSING, CompanionError
+from ..call.help import Help
 from ..call.options import read_words
 from .addresses import addresses_of
 from .elf import Elf
 from .naming import places_of
 
-HELP = """Functions and lines of addresses, and addresses of names.
+HELP = Help(
+    "names ELF [NAME | FILE:LINE]...", "function and line of each row that it reads, or addresses",
+    """A filter: each row and line of `replay`, `joint`, `races`, `slice`, `list` and `debug` gets
+the function and the line of its address. If names follow, it prints the address of each, for
+`break` and `word` of `debug`: of a function, an object or FILE:LINE.
 
-    zelkuma names ELF               a filter: puts the function and line behind each row that it reads
-    zelkuma names ELF NAME..        prints the address of a function, an object or FILE:LINE, for `break` and `word`
-
-ELF is the program with its names and lines (gcc -g); the log may be of the same program stripped. Lines come from
-addr2line of binutils or LLVM; without one there are the names of ELF's symbols, and without these the rows alone."""
-FORM = "names ELF [NAME | FILE:LINE]..."
+ELF is the program with its names and lines (gcc -g); the log may be of the same program stripped.
+Lines come from addr2line of binutils or LLVM; without one there are the names of ELF's symbols, and
+without these the rows alone.""")
 CHUNK = 1 << 16
 
 
@@ -109,7 +111,7 @@ def filter_input(elf: Elf) -> int:
 
 
 def main(words: list[str]) -> int:
-    names, _ = read_words(words, FORM)
+    names, _ = read_words(words, HELP.form)
     elf = Elf(names[0])
     if len(names) == 1:
         return filter_input(elf)

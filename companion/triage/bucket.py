@@ -5,6 +5,7 @@ import hashlib
 from typing import NamedTuple
 
 from ..call import streams
+from ..call.help import Help
 from ..call.options import read_words
 from ..recording.answers import put_answer
 from ..recording.cause import EXITS, Cause, cause_of_file
@@ -12,18 +13,16 @@ from ..recording.elf import Elf
 from ..recording.opened import opened
 from ..recording.places import Places
 
-HELP = """One line that is the same for logs that ended for the same cause, for sorting many logs.
-
-    zelkuma bucket LOG ELF [--names ELF] [--json]
-
-It prints how the run ended, the function, FILE:LINE and a digest: of the address, and of the functions on the call stack
-by ELF's own symbols, each once. So the digest is the same on each machine, with and without --names and addr2line. Values,
-counts and the schedule aren't in it. `sort | uniq -c` over the lines of many logs groups them. A run that came to its limit
-is told by the outermost function of its last rows, since any row of a loop can be last. Of a large log the last million
-rows are read, of such a run 20 million, and calls from before them aren't known. --json prints one JSON object in place
-of the line (docs/JSON.md).
-Companions show; the program proves."""
-FORM = "bucket LOG ELF [--names ELF] [--json]"
+HELP = Help(
+    "bucket LOG ELF [--names ELF] [--json]", "one line by which logs are sorted by their cause",
+    """Prints one line that is the same for logs that ended for the same cause, for sorting many
+logs: `sort | uniq -c` over the lines groups them. It has how the run ended, the function, FILE:LINE
+and a digest: of the address, and of the functions on the call stack by ELF's own symbols, each
+once. So the digest is the same on each machine, with and without --names and addr2line. Values,
+counts and the schedule aren't in it.""", {},
+    """A run that came to its limit is told by the outermost function of its last rows, since any
+row of a loop can be last. Of a large log the last million rows are read, of such a run 20 million,
+and calls from before them aren't known.""")
 UNKNOWN = "-"
 
 
@@ -60,7 +59,7 @@ def bucket_of(cause: Cause, elf: Elf, places: Places) -> Bucket:
 
 
 def main(words: list[str]) -> int:
-    (log_name, elf_name), given = read_words(words, FORM)
+    (log_name, elf_name), given = read_words(words, HELP.form)
     with opened(log_name, elf_name, given) as found:
         bucket = bucket_of(cause_of_file(found.source, elf_name), found.elf, found.places)
     if "--json" in given:

@@ -8,6 +8,7 @@ from typing import Mapping, Sequence
 
 from ..call import streams
 from ..call.errors import FOUND, MISSING, CompanionError
+from ..call.help import Help
 from ..call.options import read_words
 from ..call.page import Part, page
 from ..call.kinds import PAGE
@@ -21,27 +22,28 @@ from .table import Group, Table, day
 from .work import MOST_BYTES, MOST_SECONDS, READ, UNREAD, WHY_SECONDS, Answer, Task
 
 MOST_SUSPECTS = 20
-HELP = f"""Sorts many logs by the cause of their end.
-
-    zelkuma triage DIR.. --elfs DIR [--json FILE] [--junit FILE] [--html FILE] [--fail]
-
-It reads all logs below each DIR, on all processors. Of each cause it prints the line of `bucket`, how many logs have it, the
-first and the last by their files' dates, how many harts they have, the first memory error, the best suspect of `why`, and the
-command that says more of one of them.
-
---elfs   where the programs are: each is found by its SHA-256, which a log has. What was found is remembered in
-         ~/.cache/zelkuma/elfs.json ($XDG_CACHE_HOME), which can be deleted
---json   saves the table for other programs (docs/JSON.md)
---junit  saves it as JUnit's XML: a cause is a test, and one that is no exit has failed
---html   saves it as a page
---fail   the status is 23 if a run ended otherwise than by exit code 0, or a log couldn't be read
-
-Runs that ended well are counted, and are no cause. A damaged log is salvaged into a temporary place; its own file stays
-as it is. A log takes at most {MOST_SECONDS} s of processor time, a suspect {WHY_SECONDS} s, and either {MOST_BYTES >> 20} MB: what else the machine
-does changes nothing. Logs that can't be read are counted by the reason, as are those whose program isn't there. Of a large
-log the last million rows are read. Of the {MOST_SUSPECTS} most frequent causes the suspect is told.
-Companions show; the program proves."""
-FORM = "triage DIR.. --elfs DIR [--json FILE] [--junit FILE] [--html FILE] [--fail]"
+HELP = Help(
+    "triage DIR.. --elfs DIR [--json FILE] [--junit FILE] [--html FILE] [--fail]",
+    "the logs of folders in one table: how often each cause",
+    """Sorts many logs by the cause of their end. It reads all logs below each DIR, on all
+processors. Of each cause it prints the line of `bucket`, how many logs have it, and the first and
+the last by their files' dates. It also tells how many harts they have, the first memory error, the
+best suspect of `why`, and the command that says more of one of them.""", {
+        "--elfs": "where the programs are: each is found by its SHA-256, which a log has. What "
+                  "was found is remembered in ~/.cache/zelkuma/elfs.json ($XDG_CACHE_HOME), which "
+                  "can be deleted",
+        "--json": "saves the table for other programs (docs/JSON.md)",
+        "--junit": "saves it as JUnit's XML: a cause is a test, and one that is no exit has failed",
+        "--html": "saves it as a page",
+        "--fail": "the status is 23 if a run ended otherwise than by exit code 0, or a log "
+                  "couldn't be read",
+    },
+    f"""Runs that ended well are counted, and are no cause. A damaged log is salvaged into a
+temporary place; its own file stays as it is. A log takes at most {MOST_SECONDS} s of processor
+time, a suspect {WHY_SECONDS} s, and either {MOST_BYTES >> 20} MB: what else the machine does
+changes nothing. Logs that can't be read are counted by the reason, as are those whose program isn't
+there. Of a large log the last million rows are read. Of the {MOST_SUSPECTS} most frequent causes
+the suspect is told.""")
 KINDS = {"--json": JSON, "--junit": JUNIT, "--html": PAGE}
 
 
@@ -110,9 +112,9 @@ def saved_text(option: str, table: Table, parts: list[Part]) -> str:
 
 
 def main(words: list[str]) -> int:
-    folders, given = read_words(words, FORM)
+    folders, given = read_words(words, HELP.form)
     if "--elfs" not in given:
-        raise CompanionError(f"--elfs isn't given; the words are: {FORM}")
+        raise CompanionError(f"--elfs isn't given; the words are: {HELP.form}")
     targets: dict[str, Target] = {}
     for option, kind in KINDS.items():
         if option in given:

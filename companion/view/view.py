@@ -13,6 +13,7 @@ from typing import Any, Mapping, Optional, Sequence
 
 from ..call import streams
 from ..call.errors import REFUSED, CompanionError
+from ..call.help import Help
 from ..call.options import read_words
 from ..call.text import as_text, number
 from ..call.version import version
@@ -33,24 +34,26 @@ from .data import Page, PageEdge, story_data
 from .questions import questions_data
 from .rows import PageRows
 
-HELP = """Draws a log as one page, to look at in a browser: harts, intervals, Edges, races, the fault, and the chain behind it.
+HELP = Help(
+    "view LOG ELF [--names ELF] [--source DIR] [--row HART:IC] [--output N:BYTE] [--rows N] "
+    "[--with-questions] [--book BOOK] [--input FILE]",
+    "prints a page for a browser: harts, intervals, fault",
+    """Draws a log as one page, to look at in a browser: harts as lanes, intervals as bars, Edges,
+races, the fault, and the chain of values behind it.
 
-    zelkuma view LOG ELF [--names ELF] [--source DIR] [--row HART:IC] [--output N:BYTE] [--rows N] [--with-questions]
-                 [--book BOOK] [--input FILE] > page.html
-
---names   the program with its names and lines, if ELF was stripped
---source  shows sources below this folder too, not only below ELF's and the current one; may be given several times
---row     asks for the chain behind another row than the fault's
---output  asks for the chain behind a byte that the guest wrote, as `zelkuma output` numbers them
---rows    how many of the last rows are read, as for why
---book    draws the switches between harts, if BOOK has no more than 40 of them, as that of `zelkuma shrink`
---input   what the run read: with BOOK it is run again, to see that this is LOG's
---with-questions  puts histories of variables and calls of functions in, which a click on a word or a name opens
-
-The page is one file that needs no network and no other file. It holds names and lines of source of the program.
-Companions show; the program proves: rows, intervals, Edges and races are the program's, suspects are a judgement."""
-FORM = ("view LOG ELF [--names ELF] [--source DIR] [--row HART:IC] [--output N:BYTE] [--rows N] "
-        "[--with-questions] [--book BOOK] [--input FILE]")
+    zelkuma view LOG ELF > page.html""", {
+        "--row": "asks for the chain behind another row than the fault's",
+        "--output": "asks for the chain behind a byte that the guest wrote, as `zelkuma output` "
+                    "numbers them",
+        "--rows": "how many of the last rows are read, as for `why`",
+        "--book": "draws the switches between harts, if BOOK has no more than 40, as that of "
+                  "`shrink`",
+        "--with-questions": "puts histories of variables and calls of functions in, which a click "
+                            "on a word or a name opens",
+    },
+    """The page is one file that needs no network and no other file. It holds names and lines of
+source of the program. Rows, intervals, Edges and races are the program's, suspects are a
+judgement.""")
 SCRIPTS = ("model.js", "questions.js", "timeline.js", "arrows.js", "story.js", "rows.js",
            "panels.js", "chain.js", "controls.js")
 RACES_ASKED = 20000
@@ -277,7 +280,7 @@ class View:
 
 
 def main(words: list[str]) -> int:
-    (log_name, elf_name), given = read_words(words, FORM)
+    (log_name, elf_name), given = read_words(words, HELP.form)
     byte = asked_byte(given["--output"]) if "--output" in given else None
     if sys.stdout.isatty():
         raise CompanionError("the page is for a browser, and not for a terminal: "

@@ -8,6 +8,7 @@ from typing import Any, Iterable, Iterator, NamedTuple, Optional
 
 from ..call import streams
 from ..call.errors import NO_INTERVAL, CompanionError
+from ..call.help import Help
 from ..call.options import read_words
 from ..call.text import counted, number
 from ..recording.answers import place_of as code_place, put_answer
@@ -24,19 +25,15 @@ from ..recording.passed import Passed
 from ..recording.places import CALLED_FROM, Places
 from ..recording.stacks import Frame, Stacks, call_places
 
-HELP = """Lists what the guest wrote: each write with its row, its place and its text.
-
-    zelkuma output LOG ELF [--names ELF] [--rows N] [--json]
-
---names  the same program with names and lines, if ELF was stripped
---rows   how many of the last rows are read; without it 32 million
---json   prints one JSON object in place of the text (docs/JSON.md)
-
-Writes are numbered from 0, and so are the bytes of each: `why LOG ELF --output N:BYTE` explains one. Of the calls over a
-write those of a library, whose source isn't here, are passed. The text is put
-together from the rows of `joint`: bytes that no row loaded or stored, and that the file doesn't give for sure, are told
-as unknown. Companions show; the program proves."""
-FORM = "output LOG ELF [--names ELF] [--rows N] [--json]"
+HELP = Help(
+    "output LOG ELF [--names ELF] [--rows N] [--json]",
+    "what the guest wrote, with rows, places and texts",
+    """Lists what the guest wrote: each write with its row, its place and its text.""",
+    {"--rows": "how many of the last rows are read; without it 32 million"},
+    """Writes are numbered from 0, and so are the bytes of each: `why LOG ELF --output N:BYTE`
+explains one. Of the calls over a write those of a library, whose source isn't here, are passed. The
+text is put together from the rows of `joint`: bytes that no row loaded or stored, and that the file
+doesn't give for sure, are told as unknown.""")
 MOST_ROWS, MOST_FRAMES, MOST_RANGES = 32000000, 4, 8
 MOST_LIBRARY_CALLS = 16     # over a write: a library's printf has eight of its own
 UNKNOWN = "\ufffd"          # in place of a byte that isn't known
@@ -180,7 +177,7 @@ def said_of(places: Places, write: Write) -> str:
 
 
 def main(words: list[str]) -> int:
-    (log_name, elf_name), given = read_words(words, FORM)
+    (log_name, elf_name), given = read_words(words, HELP.form)
     with opened(log_name, elf_name, given) as found:
         all_rows, log = found.source.whole(), found.log(MOST_ROWS)
         stacks = Stacks(entries_of(found.named), log.harts)

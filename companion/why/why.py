@@ -7,6 +7,7 @@ from typing import Mapping
 from ..call import streams
 from ..call.errors import REFUSED, CompanionError
 from ..call.kinds import PAGE
+from ..call.help import Help
 from ..call.options import read_words
 from ..call.page import Part, page
 from ..call.saving import target
@@ -21,28 +22,22 @@ from .memory_part import MemoryErrors
 from .output import text_in
 from .report import brief, report
 
-HELP = """Explains a crash: what happened, where, and which store, call or branch is behind it, likeliest first.
-
-    zelkuma why LOG ELF [--names ELF] [--source DIR] [--row HART:IC] [--output N:BYTE|TEXT] [--rows N] [--book BOOK]
-                [--input FILE] [--brief] [--more] [--html FILE] [--json]
-
---names   the same program with names and lines, if ELF was stripped
---source  shows sources below this folder too, not only below ELF's and the current one; may be given several times
---row     asks of another row than the fault's
---output  asks of a byte that the guest wrote, as `zelkuma output` numbers them (N: its first byte), or of the last letter
-          of a text that it wrote
---rows    how many of the last rows are read; without it a million, and 2.6 million if values near the fault come from before
---book    tells first the switches between harts, if BOOK has no more than 40 of them, as that of `zelkuma shrink`
---input   what the run read: with BOOK it is run again, to see that this is LOG's
---brief   the end and the first suspects alone
---more    longer lists
---html    saves the same text as a page, too
---json    prints one JSON object in place of the text (docs/JSON.md)
-
-It reads the rows of `joint`, keeps some 30 bytes of each, and shows what they say; the ranking is its own judgement.
-Companions show; the program proves."""
-FORM = "why LOG ELF [--names ELF] [--source DIR] [--row HART:IC] [--output N:BYTE|TEXT] [--rows N] [--book BOOK] [--input FILE] " \
-    "[--brief] [--more] [--html FILE] [--json]"
+HELP = Help(
+    "why LOG ELF [--names ELF] [--source DIR] [--row HART:IC] [--output N:BYTE|TEXT] [--rows N] "
+    "[--book BOOK] [--input FILE] [--brief] [--more] [--html FILE] [--json]",
+    "a crash, hang or wrong byte, and what led to it",
+    """Explains a crash: what happened, where, and which store, call or branch is behind it,
+likeliest first. Of a hart at its limit it tells the loop, and what never happened in it.""", {
+        "--output": "asks of a byte that the guest wrote, as `zelkuma output` numbers them (N: "
+                    "its first byte), or of the last letter of a text that it wrote",
+        "--rows": "how many of the last rows are read; without it a million, and 2.6 million if "
+                  "values near the fault come from before",
+        "--brief": "the end and the first suspects alone",
+        "--more": "longer lists",
+        "--html": "saves the same text as a page, too",
+    },
+    """It reads the rows of `joint`, keeps some 30 bytes of each, and shows what they say; the
+ranking is its own judgement.""")
 
 
 def asked_output(asked: Opened, text: str) -> tuple[Byte, str]:
@@ -69,7 +64,7 @@ def brief_of(log: str, elf: str) -> list[str]:
 
 
 def main(words: list[str]) -> int:
-    (log, elf), given = read_words(words, FORM)
+    (log, elf), given = read_words(words, HELP.form)
     if "--brief" in given and "--more" in given:
         raise CompanionError("--brief and --more can't both be given", REFUSED)
     saved = target(given["--html"], PAGE, [log, elf, given.get("--names", "")]) if "--html" in given else None

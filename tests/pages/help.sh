@@ -1,5 +1,5 @@
 #!/usr/bin/env bash
-# Tries that what tells the words of zelkuma is made of tools/help as it stands, and that the program has the
+# Tries that what tells the words of zelkuma is made of tools/help and the companions as they stand, and that the program has the
 # commands, options, ranges and defaults that are told there. It takes a second.
 #
 # tests/pages/help.sh PROGRAM
@@ -33,7 +33,7 @@ done
 what="a change of the tables, and of the version"
 echo 7.8.9 >"$tree/VERSION"
 printf 'frob LOG TIMES [--twice N] [--gently]\n  does frobs a log\n  range TIMES 2 to 5\n' >>"$tree/tools/help/commands.txt"
-printf 'nudge LOG\n  does nudges a log\n' >>"$tree/tools/help/companions.txt"
+sed -i 's/^    "a crash, .*",$/    "nudges a log",/; s/\[--brief\]/[--nudge N]/; s/"--brief": "[^"]*"/"--nudge": "so gently"/' "$tree/companion/why/why.py"
 touch "$tree/companion/nudge.py"
 sed -i 's/^  default 100000$/  default 100001/' "$tree/tools/help/options.txt"
 sed -i 's/^21 .*/21 no frob/; s/no row IC/no frob IC/; s/give a greater MAX,/give "$(more)",/' "$tree/tools/help/statuses.txt"
@@ -42,7 +42,8 @@ runs 0 "$tree/tools/help/make.py" --under "$tree"
 for place in page.txt:"frobs a log" page.txt:100001 page.txt:"no frob" zelkuma.1:"Frobs a log." zelkuma.1:100001 \
     zelkuma.1:"no frob IC" zelkuma.1:"Zelkuma 7.8.9" zelkuma:"frob LOG TIMES" zelkuma:"frob --twice N" \
     words.sh:'[frob.]="LOG TIMES"' words.sh:'[frob.twice]="N"' words.sh:'[frob.gently]="flag"' words.sh:'[TIMES]="2 to 5"' \
-    words.sh:'[20]="give \"\$(more)\", up to 1000000"' words.sh:" nudge " each.txt:"  frobs a log" files.txt:companion/nudge.py \
+    words.sh:'[20]="give \"\$(more)\", up to 1000000"' each.txt:"  frobs a log" files.txt:companion/nudge.py \
+    page.txt:"nudges a log" page.txt:"[--nudge N]" zelkuma.1:"so gently" zelkuma:"why --nudge N" \
     "COMMANDS.md:| \`frob LOG TIMES [--twice N] [--gently]\` | frobs a log |" "COMMANDS.md:| 100001 |" "COMMANDS.md:| 21 | \`no frob IC\` |"; do
     grep -qF -- "${place#*:}" "$tree"/*/"${place%%:*}" "$tree"/*/*/"${place%%:*}" "$tree"/*/*/*/"${place%%:*}" 2>/dev/null || fails "it isn't in $place"
 done
@@ -95,18 +96,6 @@ while read -r line; do
     grep -aqF -- "$line" "$program" || fails "the program never says '$line'"
 done < <(read_table statuses | awk -F '\t' '$2 == "line" && $3 ~ /^`/ { print $3 }' |
     grep -o '`[^`]*`' | tr -d '`' | sed -E 's/ ?[A-Z]{2,}.*//')
-
-what="the words of the companions"
-: >"$work/out"
-: >"$work/err"
-if [ -d "$top/companion" ]; then
-    while read -r form; do
-        # (a long one is in two lines)
-        sed -z 's/" \\\n *"//g' "$top"/companion/*/"${form%% *}.py" | grep -qxF "FORM = \"$form\"" || fails "${form%% *}.py has another FORM than '$form'"
-    done < <(read_table companions | awk -F '\t' '$2 == "entry" { print $3 }')
-else
-    skips "the words of the companions, which aren't here"
-fi
 
 # Tries a value of an option, after whatever else has to be said for it.
 takes() { # STATUS OPTION VALUE

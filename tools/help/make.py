@@ -1,6 +1,6 @@
 #!/usr/bin/env python3
-"""Makes all that tells the words of zelkuma from the tables beside this file, so that no two of
-them differ.
+"""Makes all that tells the words of zelkuma from the tables beside this file, and of a companion
+from the HELP of its module, so that no two of them differ.
 
 tools/help/make.py                   renews what the sources have of it
 tools/help/make.py --under PREFIX    what `zelkuma install` lays of it: the manual page, and the
@@ -27,6 +27,11 @@ from typing import Callable, Dict, Iterable, Iterator, List, NamedTuple, Tuple
 
 HERE = pathlib.Path(__file__).resolve().parent
 TOP = HERE.parent.parent
+sys.path.insert(0, str(TOP))
+sys.dont_write_bytecode = True
+from companion.call.help import Help        # noqa: E402
+from companion.call.words import WORDS, help_of     # noqa: E402
+
 BEGINS = re.compile(r"(<!-- made by tools/help/make\.py: (\w+) (\w+) ?(.*?) -->\n)")
 ENDS = "<!-- end of the table -->\n"
 OPTIONAL = r"\[[^]]*\](?:\.\.\.)?"
@@ -56,8 +61,17 @@ Table = Iterable[Entry]
 Lines = Iterator[str]
 
 
+def of_companion(told: Help) -> Entry:
+    """Of a companion: what stands before its options, these with what each does, and the rest."""
+    options = [("option", f"{name}\0{does}") for name, does in told.told()]
+    texts = [("text", told.does), *options, ("text", told.more)]
+    return Entry(told.form, [("does", told.brief), *texts])
+
+
 def read(name: str) -> List[Entry]:
     """The entries of a table."""
+    if name == "companions":
+        return [of_companion(help_of(word)) for word in WORDS]
     entries: List[Entry] = []
     for line in (HERE / f"{name}.txt").read_text(encoding="utf-8").splitlines():
         if not line or line.startswith("#"):
@@ -152,7 +166,11 @@ def roff(text: str) -> str:
 
 
 def bold(text: str) -> str:
-    return "\\fB" + roff(text).replace("-", "\\-").replace("'", "\\(aq") + "\\fR"
+    return "\\fB" + verbatim(text) + "\\fR"
+
+
+def verbatim(text: str) -> str:
+    return roff(text).replace("-", "\\-").replace("'", "\\(aq")
 
 
 def paragraph(text: str) -> str:
@@ -175,6 +193,20 @@ def man_words(table: Table) -> Lines:
         for key, text in entry.texts:
             yield from (sentence(text) if key == "does"
                         else [paragraph(text)] if key == "more" else [])
+
+
+def man_companions(table: Table) -> Lines:
+    """Paragraphs, of which one that is indented has its lines as they are, and the options."""
+    for entry in table:
+        yield f".SS {verbatim(entry.first)}\n{bold(entry.name)}"
+        for key, text in entry.texts:
+            if key == "option":
+                name, _, does = text.partition("\0")
+                yield f".TP\n{bold(name)}\n{paragraph(does)}"
+            elif key == "text" and text:
+                for part in text.split("\n\n"):
+                    said = f".EX\n{verbatim(part)}\n.EE" if part[0] == " " else paragraph(part)
+                    yield f".PP\n{said}"
 
 
 def man_options(table: Table) -> Lines:
@@ -331,6 +363,11 @@ def completion_words(table: Table) -> Lines:
 
 def completion_record(table: Table) -> Lines:
     return (f"record {entry.name}" for entry in table)
+
+
+def completion_told(table: Table) -> Lines:
+    return (f"{entry.first} {text.partition(chr(0))[0]}"
+            for entry in table for text in entry.all("option"))
 
 
 def completion_options(table: Table) -> Lines:
