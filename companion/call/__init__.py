@@ -1,8 +1,9 @@
-"""The words of a call, how it ends, and what every companion needs of the system: options, texts, streams, saved files, children,
-the program. `words` has the list of the companions.
+"""The words of a call, how it ends, and what every companion needs of the system: options, texts,
+streams, saved files, children, the program. `words` has the list of the companions.
 
 May use: nothing else, but that `words` finds each companion's module."""
 
 import os
 
-PACKAGE = os.path.dirname(os.path.dirname(os.path.abspath(__file__)))      # the folder that is run, and is the package
+# The folder that is run, and is the package
+PACKAGE = os.path.dirname(os.path.dirname(os.path.abspath(__file__)))

@@ -35,7 +35,8 @@ def follow(parent: int) -> None:
 
 
 def start(words: Sequence[str], **streams: Any) -> subprocess.Popen[bytes]:
-    """A process that the system kills when this one ends, also if this one is killed. Signals wait until it is known here."""
+    """A process that the system kills when this one ends, also if this one is killed. Signals wait
+    until it is known here."""
     if Group.own:                               # its guard ends it, wherever this process is ended
         return subprocess.Popen(words, **streams)
     parent = os.getpid()
@@ -48,9 +49,10 @@ def start(words: Sequence[str], **streams: Any) -> subprocess.Popen[bytes]:
         return subprocess.Popen(words, preexec_fn=prepare, **streams)
 
 
-def run(words: Sequence[str], seconds: float, most: Mapping[int, int], **streams: Any) -> tuple[int, bytes]:
-    """The status and the output of such a process. `most` limits what it takes, by the numbers of setrlimit. TimeoutExpired
-    after so many seconds."""
+def run(words: Sequence[str], seconds: float, most: Mapping[int, int],
+        **streams: Any) -> tuple[int, bytes]:
+    """The status and the output of such a process. `most` limits what it takes, by the numbers of
+    setrlimit. TimeoutExpired after so many seconds."""
     process = start(words, stdin=subprocess.DEVNULL, stdout=subprocess.PIPE, **streams)
     try:
         for number, limit in most.items():
@@ -82,8 +84,8 @@ class Process:
 
 
 class Forked(Process):
-    """A function in a process of its own, which ends as one of `start`. The text that it gives goes into a file, as does the line
-    of what it refuses."""
+    """A function in a process of its own, which ends as one of `start`. The text that it gives goes
+    into a file, as does the line of what it refuses."""
 
     def __init__(self, work: Callable[[], str], said: str, err: str) -> None:
         parent = os.getpid()
@@ -114,7 +116,8 @@ def write(name: str, text: str) -> None:
 
 
 class Guard:
-    """A process that does something once this one has ended, however that ends, or has closed it."""
+    """A process that does something once this one has ended, however that ends, or has closed
+    it."""
 
     def __init__(self, work: Callable[[], None]) -> None:
         watched, self.pipe = os.pipe()
@@ -134,16 +137,18 @@ class Guard:
 
     def close(self) -> None:
         with contextlib.suppress(OSError):      # somebody may have ended it
-            os.write(self.pipe, b"\0")          # to close the pipe isn't enough: other processes may have it, too
+            # To close the pipe isn't enough: other processes may have it, too
+            os.write(self.pipe, b"\0")
             os.waitpid(self.pid, 0)
         os.close(self.pipe)
 
 
 class Group(Guard):
-    """Processes that end with this one. To start one of them is cheaper than by `start`, since no python runs in it first; so
-    it is for many short ones."""
+    """Processes that end with this one. To start one of them is cheaper than by `start`, since no
+    python runs in it first; so it is for many short ones."""
 
-    own: ClassVar[Optional[Group]] = None       # which this process is in: what it starts needs no python of its own to end with it
+    # Which this process is in: what it starts needs no python of its own to end with it
+    own: ClassVar[Optional[Group]] = None
 
     def __init__(self) -> None:
         super().__init__(lambda: os.killpg(0, signal.SIGKILL))
@@ -152,10 +157,12 @@ class Group(Guard):
         os.setpgid(0, self.pid)
         Group.own = self
 
-    def start(self, words: Sequence[str], said: str, err: str, environment: Mapping[str, str]) -> Process:
+    def start(self, words: Sequence[str], said: str, err: str,
+              environment: Mapping[str, str]) -> Process:
         """A process whose output and err go into files."""
         files = [(os.POSIX_SPAWN_OPEN, 0, os.devnull, os.O_RDONLY, 0)]
         files += [(os.POSIX_SPAWN_OPEN, number, name, os.O_WRONLY | os.O_CREAT | os.O_TRUNC, 0o666)
                   for number, name in ((1, said), (2, err))]
-        return Process(os.posix_spawn(words[0], list(words), environment, file_actions=files, setpgroup=self.pid,
+        return Process(os.posix_spawn(words[0], list(words), environment, file_actions=files,
+                                      setpgroup=self.pid,
                                       setsigdef=[signal.SIGPIPE, signal.SIGXFSZ]))

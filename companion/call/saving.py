@@ -1,7 +1,9 @@
-"""Files that a companion saves under a name of its user's: what may be overwritten, and how. No other module does it.
+"""Files that a companion saves under a name of its user's: what may be overwritten, and how. No
+other module does it.
 
-A new file takes the old one's place in one step, with its owner, mode and extended attributes. If that can't be, or the
-old file has further hard links, it is written in place. Signals wait while that is done."""
+A new file takes the old one's place in one step, with its owner, mode and extended attributes. If
+that can't be, or the old file has further hard links, it is written in place. Signals wait while
+that is done."""
 from __future__ import annotations
 
 import contextlib
@@ -20,8 +22,10 @@ from .streams import uninterrupted
 
 ENTER_AND_WRITE = os.W_OK | os.X_OK
 NULL = os.makedev(1, 3)     # the device /dev/null
-OUT, ERR = 1, 2
-OPEN_FILES = "/dev/fd/", "/proc/self/fd/"       # names in them are what the call was given open, as by >(..) of a shell
+OUT = 1
+ERR = 2
+# Names in them are what the call was given open, as by >(..) of a shell
+OPEN_FILES = "/dev/fd/", "/proc/self/fd/"
 
 
 @dataclass(frozen=True)
@@ -67,11 +71,14 @@ class Target:
             head = file.read(len(ELF_MAGIC))
         if head == ELF_MAGIC and self.kind is not CORE:
             self.refuse("it is an ELF file, which would be lost")
-        if head and not fits(self.kind, self.path, (old.st_dev, old.st_ino, old.st_size, old.st_mtime_ns, old.st_ctime_ns)):
-            self.refuse(f"it isn't {self.kind.name}, and would be lost; remove it first, or give another name")
+        if head and not fits(self.kind, self.path, (old.st_dev, old.st_ino, old.st_size,
+                                                    old.st_mtime_ns, old.st_ctime_ns)):
+            self.refuse(f"it isn't {self.kind.name}, and would be lost; "
+                        "remove it first, or give another name")
 
     def is_open(self, old: os.stat_result) -> bool:
-        """Whether it is a stream that the call was started with: one by its name alone could wait for a reader."""
+        """Whether it is a stream that the call was started with: one by its name alone could wait
+        for a reader."""
         if self.name.startswith(OPEN_FILES):
             return True
         for number in (OUT, ERR):
@@ -84,7 +91,8 @@ class Target:
         return os.path.dirname(os.path.abspath(self.path))
 
     def scratch(self) -> Scratch:
-        """A folder beside it, for files that `take` moves to their places. No other user can read them there."""
+        """A folder beside it, for files that `take` moves to their places. No other user can read
+        them there."""
         if os.path.exists(self.path) and not os.path.isfile(self.path):
             self.refuse("it is no file that can be replaced", UNREADABLE)
         try:
@@ -95,7 +103,8 @@ class Target:
     def take(self, made: str) -> None:
         """Saves the file `made`, which is in a folder of `scratch`."""
         old = self.check()
-        if old is None or (stat.S_ISREG(old.st_mode) and old.st_nlink == 1 and make_alike(made, self.path, old)):
+        if old is None or (stat.S_ISREG(old.st_mode) and old.st_nlink == 1
+                           and make_alike(made, self.path, old)):
             os.replace(made, self.path)
         else:
             with open(made, "rb") as file:
@@ -107,7 +116,8 @@ class Target:
     def is_in_place(self) -> bool:
         """Whether there is no file beside it that could take its place."""
         old = self.check()
-        return old is not None and not (stat.S_ISREG(old.st_mode) and os.access(self.folder(), ENTER_AND_WRITE))
+        return old is not None and not (stat.S_ISREG(old.st_mode)
+                                        and os.access(self.folder(), ENTER_AND_WRITE))
 
     def write_in_place(self, source: BinaryIO, old: os.stat_result) -> None:
         """The room for a longer file is made sure of first, so that want of it loses nothing."""
@@ -129,7 +139,8 @@ class Target:
 
 
 def save_together(files: Sequence[Tuple[Target, bytes]]) -> None:
-    """Saves files that belong together: a signal that comes meanwhile leaves all old ones, or all new ones."""
+    """Saves files that belong together: a signal that comes meanwhile leaves all old ones, or all
+    new ones."""
     with contextlib.ExitStack() as opened:
         made = []
         for place, data in files:
@@ -165,8 +176,8 @@ def fits(kind: Kind, path: str, _what: Tuple[int, ...]) -> bool:
 
 
 def target(name: str, kind: Kind, others: Sequence[str]) -> Target:
-    """A file that is to be saved later. CompanionError if it may not: nothing is done for it in vain. Of `others` empty names
-    are none."""
+    """A file that is to be saved later. CompanionError if it may not: nothing is done for it in
+    vain. Of `others` empty names are none."""
     path = os.path.realpath(name)
     if os.path.exists(name) and not os.path.exists(path):
         path = name                             # /dev/stdout leads to no name if it is a pipe
@@ -183,7 +194,8 @@ def is_one(path: str, other: str) -> bool:
 
 
 def make_alike(made: str, path: str, old: os.stat_result) -> bool:
-    """Whether the new file got the old one's owner, extended attributes (access lists among them) and, last, its mode."""
+    """Whether the new file got the old one's owner, extended attributes (access lists among them)
+    and, last, its mode."""
     try:
         os.chown(made, old.st_uid, old.st_gid)
         wanted = attributes(path)

@@ -8,16 +8,19 @@ import time
 
 from .children import Guard
 
-TRIES, PAUSE = 100, 0.05    # seconds: a process that is being killed may still make a file
+# Seconds: a process that is being killed may still make a file
+TRIES = 100
+PAUSE = 0.05
 
 
 class Scratch:
-    """Such a folder, by `with`, which gives its name. No other user can read in it. It is gone once this process has ended, also
-    if that is killed."""
+    """Such a folder, by `with`, which gives its name. No other user can read in it. It is gone once
+    this process has ended, also if that is killed."""
 
     def __init__(self, folder: str = "", prefix: str = "zelkuma-") -> None:
         self.name = os.path.join(folder or tempfile.gettempdir(), prefix + os.urandom(8).hex())
-        self.guard = Guard(self.remove)         # first: at no time there is a folder that nobody would remove
+        # first: at no time there is a folder that nobody would remove
+        self.guard = Guard(self.remove)
         try:
             os.mkdir(self.name, 0o700)
         except OSError:

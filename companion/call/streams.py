@@ -1,4 +1,5 @@
-"""The three streams of a companion: whatever state they are in, a call ends with a line and a status."""
+"""The three streams of a companion: whatever state they are in, a call ends with a line and a
+status."""
 from __future__ import annotations
 
 import contextlib
@@ -11,16 +12,22 @@ from typing import Any, Callable, ClassVar, Iterable, Iterator, Optional
 
 from .errors import UNWRITABLE, CompanionError
 
-STOPS = signal.SIGINT, signal.SIGTERM, signal.SIGHUP        # Ctrl-C, `kill`, the end of the terminal
-# Those that this process wasn't started to ignore. Nothing else tells it: what is ignored later is so for a moment.
+# Ctrl-C, `kill`, the end of the terminal
+STOPS = signal.SIGINT, signal.SIGTERM, signal.SIGHUP
+# Those that this process wasn't started to ignore. Nothing else tells it: what is ignored later is
+# so for a moment.
 HEARD = tuple(stop for stop in STOPS if signal.getsignal(stop) is not signal.SIG_IGN)
-PAUSE, SILENCE = 0.2, 1.0   # seconds between two lines of progress, and before the first
-LAST_S = 0.3                # after a signal the call cleans up for so long: it has to end within half a second
+# Seconds between two lines of progress, and before the first
+PAUSE = 0.2
+SILENCE = 1.0
+# After a signal the call cleans up for so long: it has to end within half a second
+LAST_S = 0.3
 
 
 def prepare() -> None:
-    """Makes the streams usable. One that is closed is put on a file that takes nothing, so that no other file gets its
-    number, and what is written to it fails as on a full disk. A name may hold letters that the terminal lacks."""
+    """Makes the streams usable. One that is closed is put on a file that takes nothing, so that no
+    other file gets its number, and what is written to it fails as on a full disk. A name may hold
+    letters that the terminal lacks."""
     for number, name in enumerate(("stdin", "stdout", "stderr")):
         if getattr(sys, name) is None:
             while os.open(os.devnull, os.O_RDONLY) < number:
@@ -70,7 +77,8 @@ def say(message: object) -> None:
 
 
 def tell(line: str) -> None:
-    """One line on err, if that takes it. Control characters of a file's name stay out of the terminal."""
+    """One line on err, if that takes it. Control characters of a file's name stay out of the
+    terminal."""
     show("".join(c if c.isprintable() else "?" for c in line) + "\n")
 
 
@@ -81,24 +89,29 @@ def draw(text: str) -> None:
 
 @contextlib.contextmanager
 def working(text: str) -> Iterator[None]:
-    """What takes more than a second is told on a terminal while it lasts, and for how long it does."""
-    progress, began = Progress(), time.monotonic()
+    """What takes more than a second is told on a terminal while it lasts, and for how long it
+    does."""
+    progress = Progress()
+    began = time.monotonic()
     if not progress.is_shown:
         yield
         return
     try:
-        with alarm(SILENCE, lambda *_: progress.tell(f"{text}: {time.monotonic() - began:.0f} s"), PAUSE):
+        with alarm(SILENCE,
+                   lambda *_: progress.tell(f"{text}: {time.monotonic() - began:.0f} s"), PAUSE):
             yield
     finally:
         progress.clear()
 
 
 class Progress:
-    """One line on a terminal, written over and over; elsewhere nothing. It goes before anything is printed."""
+    """One line on a terminal, written over and over; elsewhere nothing. It goes before anything is
+    printed."""
     latest: ClassVar[Optional[Progress]] = None         # that drew
 
     def __init__(self) -> None:
-        self.is_shown, self.drawn = sys.stderr.isatty(), 0.0
+        self.is_shown = sys.stderr.isatty()
+        self.drawn = 0.0
 
     def __enter__(self) -> Progress:
         return self
@@ -110,7 +123,8 @@ class Progress:
         """Draws a line, unless the one before was drawn just now."""
         now = time.monotonic()
         if self.is_shown and now - self.drawn >= PAUSE:
-            self.drawn, Progress.latest = now, self
+            self.drawn = now
+            Progress.latest = self
             draw(text)
 
     def clear(self) -> None:
@@ -135,7 +149,8 @@ def on_interrupt(handler: Any) -> None:
 
 @contextlib.contextmanager
 def stopping(handler: Callable[[int, object], None]) -> Iterator[None]:
-    """Until the end of it `handler` hears of a signal, and ends the work in its own way. A second one ends the call at once."""
+    """Until the end of it `handler` hears of a signal, and ends the work in its own way. A second
+    one ends the call at once."""
     def first(number: int, frame: object) -> None:
         on_interrupt(interrupt)
         handler(number, frame)
@@ -155,8 +170,9 @@ class Stop:
 
 
 def interrupt(number: int, _: object) -> None:
-    """Ends the call. What has to be done at the end is done, unless it takes too long or another signal comes. What python doesn't
-    raise, as within a destructor, ends it then, too. Guards and the system end its children and remove its folders."""
+    """Ends the call. What has to be done at the end is done, unless it takes too long or another
+    signal comes. What python doesn't raise, as within a destructor, ends it then, too. Guards and
+    the system end its children and remove its folders."""
     Stop.number = number
     on_interrupt(end_now)
     signal.signal(signal.SIGALRM, end_now)
@@ -169,8 +185,10 @@ def end_now(*_: object) -> None:
 
 
 @contextlib.contextmanager
-def alarm(seconds: float, handler: Callable[[int, object], None], again: float = 0) -> Iterator[None]:
-    """Calls `handler` after so many seconds, and then each `again`, until the end of it; not once a signal has ended the call."""
+def alarm(seconds: float, handler: Callable[[int, object], None],
+          again: float = 0) -> Iterator[None]:
+    """Calls `handler` after so many seconds, and then each `again`, until the end of it; not once a
+    signal has ended the call."""
     before = signal.signal(signal.SIGALRM, handler)
     signal.setitimer(signal.ITIMER_REAL, seconds, again)
     try:
@@ -188,7 +206,8 @@ def interrupted(stop: KeyboardInterrupt) -> int:
 
 @contextlib.contextmanager
 def uninterrupted() -> Iterator[set[Any]]:
-    """Each of STOPS waits until the end of it, and so does the end of the call. Gives the signals that waited before."""
+    """Each of STOPS waits until the end of it, and so does the end of the call. Gives the signals
+    that waited before."""
     before = signal.pthread_sigmask(signal.SIG_BLOCK, (*STOPS, signal.SIGALRM))
     try:
         yield before

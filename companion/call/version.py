@@ -9,7 +9,8 @@ from . import PACKAGE
 
 @functools.lru_cache(maxsize=None)
 def version() -> str:
-    """What the file VERSION beside the package says, without it what pip has installed, else "unknown"."""
+    """What the file VERSION beside the package says, without it what pip has installed, else
+    "unknown"."""
     try:
         with open(os.path.join(os.path.dirname(PACKAGE), "VERSION"), encoding="ascii") as file:
             return file.read().strip()

@@ -11,18 +11,30 @@ from .state import Event, Thing
 MOST_FINDINGS = 400         # that are kept: each is a bug, and a list of so many is read by nobody
 
 # The kinds, by AddressSanitizer's names if it has one.
-HEAP, FREED, TWICE, NO_BLOCK, NULL = ("heap-buffer-overflow", "heap-use-after-free", "double-free", "invalid-free",
-                                      "use-of-failed-allocation")
-GLOBAL, MEMBER, STACK = "global-buffer-overflow", "member-overflow", "stack-buffer-overflow"
-AFTER_RETURN, AFTER_SCOPE = "stack-use-after-return", "stack-use-after-scope"
-DEPTH, REGISTER, RETURN, POINTER = "stack-overflow", "saved-register-overwritten", "return-address-overwritten", "invalid-pointer-stored"
-UNINITIALIZED, OVERLAP, LEAK = "use-of-uninitialized-value", "memcpy-param-overlap", "memory-leak"
+HEAP = "heap-buffer-overflow"
+FREED = "heap-use-after-free"
+TWICE = "double-free"
+NO_BLOCK = "invalid-free"
+NULL = "use-of-failed-allocation"
+GLOBAL = "global-buffer-overflow"
+MEMBER = "member-overflow"
+STACK = "stack-buffer-overflow"
+AFTER_RETURN = "stack-use-after-return"
+AFTER_SCOPE = "stack-use-after-scope"
+DEPTH = "stack-overflow"
+REGISTER = "saved-register-overwritten"
+RETURN = "return-address-overwritten"
+POINTER = "invalid-pointer-stored"
+UNINITIALIZED = "use-of-uninitialized-value"
+OVERLAP = "memcpy-param-overlap"
+LEAK = "memory-leak"
 
 
 @dataclass
 class Finding:
     """thing   the object that it is about, if there is one
-    origin  the place that made or loaded the pointer, or the undefined value, and what it did; 0 if that isn't known
+    origin  the place that made or loaded the pointer, or the undefined value, and what it did; 0 if
+            that isn't known
     times   how often the same was done: by one function to one thing"""
     kind: str
     text: str

@@ -1,4 +1,5 @@
-"""The blocks that live at the end, and which of them no pointer reaches: by the words of memory as `joint` tells them at its end."""
+"""The blocks that live at the end, and which of them no pointer reaches: by the words of memory as
+`joint` tells them at its end."""
 from __future__ import annotations
 
 from typing import Dict, Iterator, List, NamedTuple, Set, Tuple
@@ -12,7 +13,8 @@ MOST_CALLERS = 4            # places of which a group has the same
 
 
 class Leak(NamedTuple):
-    """Blocks that were taken in the same place: how many, their bytes, and how many of them no pointer reaches."""
+    """Blocks that were taken in the same place: how many, their bytes, and how many of them no
+    pointer reaches."""
     callers: Tuple[int, ...]
     blocks: int
     size: int
@@ -28,13 +30,16 @@ def last_words(log_name: str, elf_name: str) -> Iterator[Tuple[int, int]]:
 
 
 class Leaks:
-    """A pointer is each word whose value is in a block: one that is a number by chance makes a block reached, and never lost."""
+    """A pointer is each word whose value is in a block: one that is a number by chance makes a
+    block reached, and never lost."""
 
     def __init__(self, heap: Heap, harts: List[Hart], words: Iterator[Tuple[int, int]]) -> None:
         self.heap = heap
-        self.inside: Dict[int, List[Thing]] = {}        # {block's begin: the blocks to which its words lead}
+        # {block's begin: the blocks to which its words lead}
+        self.inside: Dict[int, List[Thing]] = {}
         self.roots: List[Thing] = []
-        unused = [(hart.lowest, hart.sp) for hart in harts]     # below a stack's pointer are frames that have ended
+        # Below a stack's pointer are frames that have ended
+        unused = [(hart.lowest, hart.sp) for hart in harts]
         for address, value in words:
             block = heap.holding(value)
             if block is not None and not any(low <= address < sp for low, sp in unused):
@@ -44,8 +49,10 @@ class Leaks:
         self.roots += [block for block in (heap.holding(value or 0) for value in values) if block]
 
     def reached(self) -> Set[int]:
-        """The begins of blocks that a pointer outside of blocks leads to, or one in a block that is reached."""
-        work, seen = list(self.roots), set()
+        """The begins of blocks that a pointer outside of blocks leads to, or one in a block that is
+        reached."""
+        work = list(self.roots)
+        seen = set()
         while work:
             block = work.pop()
             if block.begin not in seen:
@@ -60,7 +67,8 @@ class Leaks:
         for begin, block in self.heap.live.items():
             callers = block.taken.pcs[:MOST_CALLERS] if block.taken else ()
             old = found.get(callers, Leak(callers, 0, 0, 0))
-            found[callers] = Leak(callers, old.blocks + 1, old.size + block.size, old.unreached + (begin not in seen))
+            found[callers] = Leak(callers, old.blocks + 1, old.size + block.size,
+                                  old.unreached + (begin not in seen))
         return sorted(found.values(), key=lambda one: (-one.unreached, -one.size))
 
 

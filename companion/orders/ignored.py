@@ -10,7 +10,9 @@ from ..call.files import check_regular
 from ..recording.places import Frame
 from ..recording.races import Group, Races
 
-MOST_LINES, LONGEST, MOST_STARS = 10000, 200, 4
+MOST_LINES = 10000
+LONGEST = 200
+MOST_STARS = 4
 AND = " and "
 
 
@@ -25,12 +27,17 @@ class Ignored(NamedTuple):
             return cls([])
         check_regular(name)
         with open(name, encoding="utf-8", errors="surrogateescape") as file:
-            lines = [line.partition("#")[0].strip() for line in file.readlines(MOST_LINES * LONGEST)]
-        wrong = next((at for at, line in enumerate(lines, 1) if line.count(AND) > 1 or line.count("*") > MOST_STARS or len(line) > LONGEST), 0)
+            lines = [line.partition("#")[0].strip()
+                     for line in file.readlines(MOST_LINES * LONGEST)]
+        wrong = next((at for at, line in enumerate(lines, 1) if line.count(AND) > 1
+                      or line.count("*") > MOST_STARS or len(line) > LONGEST), 0)
         if wrong or len(lines) > MOST_LINES:
-            raise CompanionError(f"{name}:{wrong or MOST_LINES}: a line of --ignore names a word, a place, or two places with \"{AND}\" "
-                                 f"between them, in at most {LONGEST} letters with {MOST_STARS} *; there are at most {MOST_LINES} lines", REFUSED)
-        return cls([[re.compile(re.escape(name).replace(r"\*", ".*")) for name in line.split(AND)] for line in lines if line])
+            raise CompanionError(f"{name}:{wrong or MOST_LINES}: a line of --ignore names a word, "
+                                 f"a place, or two places with \"{AND}\" between them, "
+                                 f"in at most {LONGEST} letters with {MOST_STARS} *; "
+                                 f"there are at most {MOST_LINES} lines", REFUSED)
+        return cls([[re.compile(re.escape(name).replace(r"\*", ".*")) for name in line.split(AND)]
+                    for line in lines if line])
 
     def fits(self, races: Races, group: Group) -> bool:
         """Whether a line names the word of a group, one of its places, or both."""
@@ -48,7 +55,8 @@ def names_of(frame: Frame) -> List[str]:
     return [frame.function, line, f"{frame.function} {line}"]
 
 
-def is_one(patterns: Sequence[Pattern[str]], words: Sequence[str], places: Sequence[Sequence[str]]) -> bool:
+def is_one(patterns: Sequence[Pattern[str]], words: Sequence[str],
+           places: Sequence[Sequence[str]]) -> bool:
     def fits(pattern: Pattern[str], names: Sequence[str]) -> bool:
         return any(name and pattern.fullmatch(name) for name in names)
 

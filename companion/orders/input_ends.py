@@ -1,5 +1,5 @@
-"""Whether a run of one hart with a shorter input ends as the recorded one: in a fault, at the limit, with an exit code, or with a
-text that it wrote.
+"""Whether a run of one hart with a shorter input ends as the recorded one: in a fault, at the
+limit, with an exit code, or with a text that it wrote.
 
 Each end is told in two parts: one that costs nothing, and one that takes the last rows."""
 from __future__ import annotations
@@ -19,7 +19,8 @@ from .same_end import CALLS_ROWS, Faulted, Over, Recording, exit_code
 
 LOOP_ROWS = 4000            # of so many last rows of a hang the addresses are compared
 PC = re.compile(rb"^0 \d+ (\w{8}) ", re.M)
-NULL = 4096                 # an address below it is a null pointer's, which is another fault than a wild one's
+# An address below it is a null pointer's, which is another fault than a wild one's
+NULL = 4096
 HART = 0
 
 
@@ -46,10 +47,13 @@ InputEnd = Union[Fault, Loop, Over]
 
 
 class InputEnds:
-    """Tells how recordings of a program end. `says` is a text that one wrote, if its end is told by that, or nothing."""
+    """Tells how recordings of a program end. `says` is a text that one wrote, if its end is told by
+    that, or nothing."""
 
     def __init__(self, quick: Quick, elf: Elf, says: bytes = b"") -> None:
-        self.quick, self.elf, self.says = quick, elf, says
+        self.quick = quick
+        self.elf = elf
+        self.says = says
 
     def rough(self, made: Recording) -> Hashable:
         end = made.read.ends[HART]
@@ -60,8 +64,10 @@ class InputEnds:
         return made.status, 0 if made.status == LIMIT else exit_code(made.read.ends)
 
     def written(self, made: Recording) -> bytes:
-        """What the run wrote to both of its streams. The last line on err is the program's summary."""
-        return Path(made.said).read_bytes() + Path(made.err).read_bytes().rstrip(b"\n").rpartition(b"\n")[0]
+        """What the run wrote to both of its streams. The last line on err is the program's
+        summary."""
+        return (Path(made.said).read_bytes()
+                + Path(made.err).read_bytes().rstrip(b"\n").rpartition(b"\n")[0])
 
     def exact(self, made: Recording, wanted: Optional[InputEnd] = None) -> InputEnd:
         """How it ends. If the last row isn't that of another that is wanted, no more is read."""

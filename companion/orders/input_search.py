@@ -11,9 +11,11 @@ WORDS = re.compile(rb"\w+|[ \t]+|.", re.S)
 BRACKETS = dict(zip(b"([{", b")]}"))
 MOST_GROUPS = 200           # are tried at once
 MOST_IN_VAIN = 2000         # tries of a pass that gain nothing end it
-SMALL = 8                   # from so many pieces on each number is tried: records can have any length
+# From so many pieces on each number is tried: records can have any length
+SMALL = 8
 # Each byte becomes the plain one of its kind, and one that is no text 0.
-PLAIN = ((re.compile(rb"[1-9]"), b"0"), (re.compile(rb"[b-z]"), b"a"), (re.compile(rb"[B-Z]"), b"A"),
+PLAIN = ((re.compile(rb"[1-9]"), b"0"), (re.compile(rb"[b-z]"), b"a"),
+         (re.compile(rb"[B-Z]"), b"A"),
          (re.compile(rb"[\x01-\x08\x0b\x0c\x0e-\x1f\x7f-\xff]"), b"\0"))
 
 
@@ -21,7 +23,8 @@ class InputSearch:
     """best  the shortest input so far"""
 
     def __init__(self, tries: InputTries, data: bytes) -> None:
-        self.tries, self.best = tries, data
+        self.tries = tries
+        self.best = data
 
     def run(self) -> None:
         """First what takes off most: some tens of tries for any length."""
@@ -53,7 +56,8 @@ class InputSearch:
     def halve(self, part: Callable[[bytes, int], bytes]) -> None:
         """The shortest part of the whole that ends as wanted, if all longer ones do."""
         whole = self.best
-        low, high = 0, len(whole)
+        low = 0
+        high = len(whole)
         while low + 1 < high and not self.tries.is_ended():
             middle = (low + high) // 2
             if self.takes(part(whole, middle)):
@@ -62,25 +66,31 @@ class InputSearch:
                 low = middle
 
     def cut(self, found: Sequence[bytes]) -> None:
-        """Leaves out pieces: the half of them, a quarter, and so on; single ones until none can go."""
+        """Leaves out pieces: the half of them, a quarter, and so on; single ones until none can
+        go."""
         pieces: List[bytes] = list(found)
-        size, left = max(1, len(pieces) // 2), MOST_IN_VAIN
+        size = max(1, len(pieces) // 2)
+        left = MOST_IN_VAIN
         while len(pieces) > 1 and left > 0 and not self.tries.is_ended():
-            at, before = 0, len(pieces)
+            at = 0
+            before = len(pieces)
             while at < len(pieces) and left > 0 and not self.tries.is_ended():
                 starts = range(at, len(pieces), size)
-                held = self.tries.first((b"".join(pieces[:i] + pieces[i + size:]) for i in starts), left)
+                held = self.tries.first((b"".join(pieces[:i] + pieces[i + size:]) for i in starts),
+                                        left)
                 left = MOST_IN_VAIN if held else left - len(starts)
                 if held is None:
                     break
-                self.best, at = held.data, starts[held.number]
+                self.best = held.data
+                at = starts[held.number]
                 del pieces[at:at + size]
             if size == 1 and len(pieces) == before:
                 break
             size = max(1, size // 2 if size > SMALL else size - 1)
 
     def leave_groups(self) -> None:
-        """Leaves out what is between brackets, with them, or the two alone: neither can go without the other."""
+        """Leaves out what is between brackets, with them, or the two alone: neither can go without
+        the other."""
         held = True
         while held and not self.tries.is_ended():
             found = self.tries.first(without_groups(self.best), MOST_IN_VAIN)
@@ -89,7 +99,8 @@ class InputSearch:
 
     def make_plain(self, plain: Callable[[bytes], bytes]) -> None:
         """Makes all bytes plain, else those of each half, and so on."""
-        size, left = len(self.best), MOST_IN_VAIN
+        size = len(self.best)
+        left = MOST_IN_VAIN
         while size and left > 0 and not self.tries.is_ended():
             for at in range(0, len(self.best), size):
                 changed = self.best[:at] + plain(self.best[at:at + size]) + self.best[at + size:]

@@ -1,4 +1,5 @@
-"""Tries inputs: each is one recording with one hart. The first in their order that ends as wanted is taken."""
+"""Tries inputs: each is one recording with one hart. The first in their order that ends as wanted
+is taken."""
 from __future__ import annotations
 
 import hashlib
@@ -12,7 +13,9 @@ from .record import LIMIT
 from .same_end import Over, Recording
 from .side_by_side import Attempt, SideBySide
 
-SHARE, MORE = 4, 20000      # a run may do a quarter more instructions than the recorded one, and so many
+# A run may do a quarter more instructions than the recorded one, and so many
+SHARE = 4
+MORE = 20000
 LEAST_LIMIT = 1000          # to which the limit of a run that hangs is lowered
 MOST_INTERVAL = 20000       # instructions, so that the last interval is soon read
 
@@ -35,14 +38,16 @@ class InputTries(SideBySide[Attempt, bytes]):
     def __init__(self, options: Mapping[str, str], ends: InputEnds, jobs: int) -> None:
         super().__init__(jobs)
         interval = str(min(MOST_INTERVAL, int(options["--interval"])))
-        self.options, self.ends = {**options, "--format": "2", "--interval": interval}, ends
+        self.options = {**options, "--format": "2", "--interval": interval}
+        self.ends = ends
         self.known: Dict[bytes, bool] = {}
         self.rough: Hashable = None
         self.wanted: InputEnd = Over()
 
     def begin(self, asked: bytes) -> Attempt:
         self.started += 1
-        return Attempt(self.ends.quick, self.options, self.ends.elf.name, self.started - 1, asked, True)
+        return Attempt(self.ends.quick, self.options, self.ends.elf.name, self.started - 1,
+                       asked, True)
 
     def record(self, data: bytes) -> Recording:
         """A recording whose files stay."""
@@ -51,11 +56,14 @@ class InputTries(SideBySide[Attempt, bytes]):
         return one.made()
 
     def want(self, made: Recording) -> None:
-        """From here on a try is wanted that ends as this recording, and doesn't take much longer."""
-        self.rough, self.wanted = self.ends.rough(made), self.ends.exact(made)
+        """From here on a try is wanted that ends as this recording, and doesn't take much
+        longer."""
+        self.rough = self.ends.rough(made)
+        self.wanted = self.ends.exact(made)
         if made.status != LIMIT:
             most = max(end.count for end in made.read.ends.values())
-            self.options["--limit"] = str(min(int(self.options["--limit"]), most + most // SHARE + MORE))
+            self.options["--limit"] = str(min(int(self.options["--limit"]),
+                                              most + most // SHARE + MORE))
 
     def lower_limit(self, data: bytes) -> None:
         """A run that hangs is in its loop under a lower limit as well, and a try is done sooner."""
@@ -88,8 +96,10 @@ class InputTries(SideBySide[Attempt, bytes]):
     def first(self, candidates: Iterable[bytes], most: int) -> Optional[Held]:
         """The first of at most so many candidates that ends as wanted."""
         numbers: list[int] = []
-        with closing(self.in_order(self.unknown(islice(candidates, most), numbers), self.judged)) as judged:
-            return next((Held(numbers[at], one.data) for at, one in enumerate(judged) if one and one.is_wanted), None)
+        with closing(self.in_order(self.unknown(islice(candidates, most), numbers),
+                                   self.judged)) as judged:
+            return next((Held(numbers[at], one.data)
+                         for at, one in enumerate(judged) if one and one.is_wanted), None)
 
     def unknown(self, candidates: Iterable[bytes], numbers: list[int]) -> Iterator[bytes]:
         """Those that weren't judged, and in `numbers` which they are."""

@@ -23,7 +23,8 @@ def grouped(pieces: Pieces, width: int, begin: int) -> Iterator[Move]:
         for piece in window:
             turns[piece.hart] = turns.get(piece.hart, 0) + piece.turns
         for order in orders(window):
-            found = joined(pieces[:at] + tuple(Piece(hart, turns[hart]) for hart in order) + pieces[at + width:])
+            found = joined(pieces[:at] + tuple(Piece(hart, turns[hart]) for hart in order)
+                           + pieces[at + width:])
             if found != pieces:
                 yield at, found
 
@@ -31,7 +32,8 @@ def grouped(pieces: Pieces, width: int, begin: int) -> Iterator[Move]:
 def rest_grouped(pieces: Pieces, kept: Pieces) -> Iterator[Move]:
     """What comes behind the pieces that are kept is grouped by hart."""
     turns = turns_of(pieces)[len(turns_of(kept)):]
-    found = [joined(kept + tuple(Piece(hart, turns.count(hart)) for hart in order)) for order in orders(pieces_of(turns))]
+    found = [joined(kept + tuple(Piece(hart, turns.count(hart)) for hart in order))
+             for order in orders(pieces_of(turns))]
     return ((1, each) for each in sorted(found, key=size_of))
 
 

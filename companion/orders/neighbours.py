@@ -1,5 +1,6 @@
-"""Orders near an order, the same each time. A switch comes a little earlier or later, alone and with
-others. Or behind the order up to a switch come bursts of all harts. Or turns are drawn from the start."""
+"""Orders near an order, the same each time. A switch comes a little earlier or later, alone and
+with others. Or behind the order up to a switch come bursts of all harts. Or turns are drawn from
+the start."""
 from __future__ import annotations
 
 import random
@@ -10,7 +11,9 @@ from ..recording.turns import Piece, Pieces, again_at, joined
 from .runs import Asked
 from .windows import SLACK, shifted
 
-FARTHEST, TOGETHER = 64, 12             # turns by which one switch is moved at most, and each of several
+# Turns by which one switch is moved at most, and each of several
+FARTHEST = 64
+TOGETHER = 12
 LENGTHS = 1, 1, 2, 3, 5, 8, 13, 21, 34  # of bursts
 BURSTS = 4, 24                          # so many at least and at most
 MOST_HARTS_MOVED = 3
@@ -54,7 +57,8 @@ def bursts(pieces: Pieces, harts: int, draw: random.Random) -> Iterator[Asked]:
     while pieces:
         at = draw.randrange(len(pieces))
         cut = max(1, pieces[at].turns + draw.randint(-TOGETHER, TOGETHER))
-        rest = [Piece(draw.randrange(harts), draw.choice(LENGTHS)) for _ in range(draw.randint(*BURSTS))]
+        rest = [Piece(draw.randrange(harts), draw.choice(LENGTHS))
+                for _ in range(draw.randint(*BURSTS))]
         yield Asked(joined([*pieces[:at], Piece(pieces[at].hart, cut), *rest]))
 
 
@@ -62,4 +66,5 @@ def drawn() -> Iterator[Asked]:
     number = 0
     while True:
         number += 1
-        yield from (Asked(schedule=f"sleeper:{number}"), Asked(schedule=f"bursts:{number}"), Asked(seed=number))
+        yield from (Asked(schedule=f"sleeper:{number}"),
+                    Asked(schedule=f"bursts:{number}"), Asked(seed=number))

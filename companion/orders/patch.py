@@ -1,7 +1,9 @@
-"""A copy of a program in which one execution of one instruction is done otherwise, and all else is as it was.
+"""A copy of a program in which one execution of one instruction is done otherwise, and all else is
+as it was.
 
-The instruction becomes a jump to new code. That counts its executions in a register that the program never names, and does the chosen
-one otherwise. It accesses memory as often as the instruction, so each turn is what it was."""
+The instruction becomes a jump to new code. That counts its executions in a register that the
+program never names, and does the chosen one otherwise. It accesses memory as often as the
+instruction, so each turn is what it was."""
 from __future__ import annotations
 
 import struct
@@ -12,13 +14,20 @@ from ..call.errors import REFUSED, CompanionError
 from ..recording.elf import EXECUTABLE, LOADED, Elf, last_before
 from ..recording.instruction import BRANCH, OP_LOAD, Instruction
 
-PLACE, PAGE = 0x2000, 4096  # of the new code: no program is there
+# Of the new code: no program is there
+PLACE = 0x2000
+PAGE = 4096
 FAR = 1 << 20               # as far as a jump leads
 MOST_ADDED = 2047           # by one instruction
 MOST_STEPS = 16             # by which a count is taken off, without a register to compare with
-OP_ADD, OP_UPPER, OP_JUMP, OP_BRANCH = 0x13, 0x37, 0x6f, 0x63
-NOT_EQUAL, FLIP = 1 << 12, 1 << 12
-NO_OFFSET, SKIP_ONE = 0x01fff07f, 4 << 8        # a branch without its offset; one over the next instruction
+OP_ADD = 0x13
+OP_UPPER = 0x37
+OP_JUMP = 0x6f
+OP_BRANCH = 0x63
+NOT_EQUAL = 1 << 12
+FLIP = 1 << 12
+NO_OFFSET = 0x01fff07f  # a branch without its offset
+SKIP_ONE = 4 << 8  # one over the next instruction
 WORD = 2
 
 
@@ -26,8 +35,10 @@ WORD = 2
 class Execution:
     """Which execution of an instruction is done otherwise.
 
-    number  of its hart's, from 1; tests: registers with the values that no other hart has at its execution of that number
-    value   what is put into the instruction's register, or None: its store isn't done, its branch goes the other way"""
+    number  of its hart's, from 1; tests: registers with the values that no other hart has at its
+            execution of that number
+    value   what is put into the instruction's register, or None: its store isn't done, its branch
+            goes the other way"""
     code: Instruction
     number: int
     tests: Sequence[Tuple[int, int]]
@@ -63,8 +74,10 @@ def constant(register: int, value: int) -> List[int]:
 def jump(at: int, to: int) -> int:
     way = to - at
     if not -FAR <= way < FAR:
-        raise CompanionError(f"the code at {at:08x} is too far from the place of new code, {PLACE:08x}", REFUSED)
-    return (way >> 20 & 1) << 31 | (way >> 1 & 1023) << 21 | (way >> 11 & 1) << 20 | (way >> 12 & 255) << 12 | OP_JUMP
+        raise CompanionError(f"the code at {at:08x} is too far from the place of new code, "
+                             f"{PLACE:08x}", REFUSED)
+    return ((way >> 20 & 1) << 31 | (way >> 1 & 1023) << 21 | (way >> 11 & 1) << 20
+            | (way >> 12 & 255) << 12 | OP_JUMP)
 
 
 def branch_if_other(one: int, other: int, way: int) -> int:
@@ -78,9 +91,12 @@ class NewCode:
     def __init__(self, done: Execution, registers: Sequence[int]) -> None:
         self.done = done
         self.words: List[int] = []
-        self.counter, self.scratch = registers[0], registers[1] if len(registers) > 1 else 0
-        self.steps: List[int] = []              # what was taken off the count, and is to be added again
-        self.others: List[Tuple[int, int, int]] = []            # branches to the plain execution: place and registers
+        self.counter = registers[0]
+        self.scratch = registers[1] if len(registers) > 1 else 0
+        # What was taken off the count, and is to be added again
+        self.steps: List[int] = []
+        # Branches to the plain execution: place and registers
+        self.others: List[Tuple[int, int, int]] = []
         self.build()
 
     def build(self) -> None:
@@ -104,7 +120,8 @@ class NewCode:
             self.steps.append(min(left, MOST_ADDED))
             left -= self.steps[-1]
         if len(self.steps) > MOST_STEPS or self.done.tests:
-            raise CompanionError("the program's code names all registers but one, which isn't enough to tell this execution", REFUSED)
+            raise CompanionError("the program's code names all registers but one, "
+                                 "which isn't enough to tell this execution", REFUSED)
         self.words += [added(self.counter, -step, self.counter) for step in self.steps]
         self.branch(self.counter, 0)
 
@@ -123,7 +140,8 @@ class NewCode:
         if self.done.value is not None:
             return [code.word, *constant(code.rd, self.done.value)]
         offset = (code.word >> 25 << 5 | code.word >> 7 & 31) & 0xfff
-        kind = WORD if code.width == 4 else 4 + (code.width >> 1)           # lw, lbu, lhu: into no register
+        # lw, lbu, lhu: into no register
+        kind = WORD if code.width == 4 else 4 + (code.width >> 1)
         return [offset << 20 | code.rs1 << 15 | kind << 12 | OP_LOAD]
 
     def put(self, words: Sequence[int]) -> None:
@@ -149,7 +167,8 @@ def patched(elf: Elf, code: Instruction, words: Sequence[int]) -> bytes:
     count, = struct.unpack_from("<H", data, 44)
     size = 4 * len(words)
     if any(part.address < PLACE + size and PLACE < part.address + part.size for part in elf.parts):
-        raise CompanionError(f"the program has something at {PLACE:08x}, where the new code has to be", REFUSED)
+        raise CompanionError(f"the program has something at {PLACE:08x}, "
+                             "where the new code has to be", REFUSED)
     for at in range(first, first + 32 * count, 32):
         kind, offset, address, _, in_file, *_ = struct.unpack_from("<8I", data, at)
         if kind == LOADED and address <= code.pc < address + in_file:

@@ -1,8 +1,8 @@
 """The last switches of a list of turns, looked for in an earlier round of the program's loops.
 
-If a race comes in a hart's tenth round, each round before it costs switches that nobody needs. No piece can be left out
-then, since the others come to other places. So the last pieces are run again behind fewer of the first ones, each up to
-the place at which its hart stopped."""
+If a race comes in a hart's tenth round, each round before it costs switches that nobody needs. No
+piece can be left out then, since the others come to other places. So the last pieces are run again
+behind fewer of the first ones, each up to the place at which its hart stopped."""
 from __future__ import annotations
 
 from typing import Iterator, Optional
@@ -19,8 +19,10 @@ class Rounds:
     """places  of each piece the one at which its hart stopped"""
 
     def __init__(self, tries: Tries, pieces: Pieces) -> None:
-        self.tries, self.pieces = tries, pieces
-        self.most = {hart: sum(piece.turns for piece in pieces if piece.hart == hart) for hart, _ in pieces}
+        self.tries = tries
+        self.pieces = pieces
+        self.most = {hart: sum(piece.turns for piece in pieces if piece.hart == hart)
+                     for hart, _ in pieces}
         lines = {hart: self.lines(pieces, hart) for hart in self.most}
         done = dict.fromkeys(self.most, 0)
         self.places: list[bytes] = []
@@ -48,15 +50,17 @@ class Rounds:
                     yield found
 
     def behind(self, first: Pieces, begin: int) -> Optional[Pieces]:
-        """Behind some pieces those from a place of the list on, each up to its place; None if one doesn't come
-        there, or the search is to end."""
+        """Behind some pieces those from a place of the list on, each up to its place; None if one
+        doesn't come there, or the search is to end."""
         for at in range(begin, len(self.pieces)):
             if self.tries.is_ended():
                 return None
             hart = self.pieces[at].hart
             done = sum(piece.turns for piece in first if piece.hart == hart)
-            lines = self.lines(joined((*first, Piece(hart, 2 * self.most[hart]))), hart)[done:done + 2 * self.most[hart]]
-            turns = next((turn for turn, line in enumerate(lines, 1) if place_of(line) == self.places[at]), 0)
+            lines = self.lines(joined((*first, Piece(hart, 2 * self.most[hart]))),
+                               hart)[done:done + 2 * self.most[hart]]
+            turns = next((turn for turn, line in enumerate(lines, 1)
+                          if place_of(line) == self.places[at]), 0)
             if not turns:
                 return None
             first = joined((*first, Piece(hart, turns)))

@@ -65,8 +65,8 @@ class ShrinkInput:
 
 
 class Shrunk(NamedTuple):
-    """What is told, as lines and for other programs, the status to end with, and the nearest run that ends well, if it was
-    wanted and is found."""
+    """What is told, as lines and for other programs, the status to end with, and the nearest run
+    that ends well, if it was wanted and is found."""
     lines: list[str]
     answer: dict[str, Any]
     status: int
@@ -89,27 +89,35 @@ def shrink(asked: ShrinkInput) -> Shrunk:
             told = Told(found, made, Teller(program.named, program.places), asked)
             said = Shrunk(told.lines(), told.answer(), status, nearest)
     if found.tries.is_ended():
-        streams.say("the search was ended before it was done: the list may be longer than it need be")
+        streams.say("the search was ended before it was done: "
+                    "the list may be longer than it need be")
     return said
 
 
 def save(made: Recording, targets: Sequence[Target]) -> None:
-    save_together([(place, Path(name).read_bytes()) for name, place in zip((made.log, made.book), targets)])
+    save_together([(place, Path(name).read_bytes())
+                   for name, place in zip((made.log, made.book), targets)])
 
 
-def save_order(targets: Targets, found: Search, asked: ShrinkInput, meaning: Meaning, quick: Quick) -> None:
-    """Saves the order by lines and objects, and with it how many of the orders near it end badly."""
-    telling = Telling(quick, meaning, asked.options, found.tries.ends.offset, TRIES, found.tries.jobs)
+def save_order(targets: Targets, found: Search, asked: ShrinkInput,
+               meaning: Meaning, quick: Quick) -> None:
+    """Saves the order by lines and objects, and with it how many of the orders near it end
+    badly."""
+    telling = Telling(quick, meaning, asked.options, found.tries.ends.offset,
+                      TRIES, found.tries.jobs)
     targets.save(telling.of_search(found))
 
 
 class Signals:
-    """Ends a search on Ctrl-C, TERM, HUP and when its time is over. By `with`, around the saving of what was found too.
+    """Ends a search on Ctrl-C, TERM, HUP and when its time is over. By `with`, around the saving of
+    what was found too.
 
     status  to end with"""
 
     def __init__(self, tries: SideBySide[Any, Any], seconds: int) -> None:
-        self.tries, self.status, self.opened = tries, 0, contextlib.ExitStack()
+        self.tries = tries
+        self.status = 0
+        self.opened = contextlib.ExitStack()
         self.seconds = seconds
 
     def come(self, which: int, _frame: object) -> None:
@@ -132,14 +140,16 @@ def offset_of(log: Log, elf: Elf, byte: Byte) -> int:
         if write.number == byte.write and write.stream == 1 and byte.place < len(write.data):
             return before + byte.place
         before += len(write.data) if write.stream == 1 else 0
-    raise CompanionError(f"the log holds no byte {byte.place} of a write {byte.write} to the output: `zelkuma output` lists them",
-                         NO_INTERVAL)
+    raise CompanionError(f"the log holds no byte {byte.place} of a write {byte.write} to the "
+                         "output: `zelkuma output` lists them", NO_INTERVAL)
 
 
 def search(asked: ShrinkInput, quick: Quick) -> tuple[Search, Recording, int]:
-    """Searches, and saves the recording of the shortest list that is found. A signal ends the search alone: its status."""
+    """Searches, and saves the recording of the shortest list that is found. A signal ends the
+    search alone: its status."""
     offset = offset_of(load_log(asked.log), asked.program.elf, asked.byte) if asked.byte else None
-    tries = Tries(asked.options, Ends(quick, asked.program.elf, offset), len(os.sched_getaffinity(0)))
+    tries = Tries(asked.options, Ends(quick, asked.program.elf, offset),
+                  len(os.sched_getaffinity(0)))
     found = Search(tries, tries.record(pieces_of(Path(asked.book).read_bytes())))
     with Signals(tries, asked.seconds) as signals:
         found.run()
@@ -153,13 +163,18 @@ class Told:
     """What is told of a search."""
 
     def __init__(self, found: Search, made: Recording, teller: Teller, asked: ShrinkInput) -> None:
-        self.found, self.teller, self.asked, elf = found, teller, asked, asked.program.elf
+        self.found = found
+        self.teller = teller
+        self.asked = asked
+        elf = asked.program.elf
         log = made.read
-        self.pieces, self.turns = pieces_of(made.turns()), found.recorded_turns
+        self.pieces = pieces_of(made.turns())
+        self.turns = found.recorded_turns
         lines = lines_by_piece(log, elf.name, self.pieces, min(len(found.core), MOST_TOLD + 1))
         self.switches = bounded(self.pieces, lines, found.windows)
         self.bucket = bucket_of(cause_of(log, elf.name), elf, teller.places)
-        self.waiting = tuple(found.tries.exact.stays) if isinstance(found.tries.exact, Waiting) else ()
+        self.waiting = (tuple(found.tries.exact.stays) if isinstance(found.tries.exact, Waiting)
+                        else ())
 
     def order(self) -> str:
         """The pieces that matter."""
@@ -167,27 +182,34 @@ class Told:
 
     def lines(self) -> list[str]:
         found = self.found
-        said = [f"{counted(found.recorded_pieces - 1, 'switch')} and {counted(found.recorded_turns, 'turn')} are cut to "
-                f"{number(len(self.pieces) - 1)} and {number(size_of(self.pieces)[1])}, by {number(found.tries.count)} recordings",
-                f"order: {self.order()}"]
+        said = [
+            f"{counted(found.recorded_pieces - 1, 'switch')} and "
+            f"{counted(found.recorded_turns, 'turn')} are cut to {number(len(self.pieces) - 1)} "
+            f"and {number(size_of(self.pieces)[1])}, by {number(found.tries.count)} recordings",
+            f"order: {self.order()}"]
         for place, one in enumerate(self.switches, 1):
-            said += self.teller.lines(place, one.switch) + window_lines(self.teller, one) + self.beside(one.switch)
+            said += (self.teller.lines(place, one.switch) + window_lines(self.teller, one)
+                     + self.beside(one.switch))
         more = len(found.core) - 1 - len(self.switches)
         said += [f"  .. {counted(more, 'more switch')} .."] if more > 0 else []
         if self.waiting:
             harts = ", ".join(map(str, self.waiting))
-            said.append(f"from then on {'harts' if len(self.waiting) > 1 else 'hart'} {harts} wait{'s' * (len(self.waiting) == 1)}")
+            said.append(f"from then on {'harts' if len(self.waiting) > 1 else 'hart'} {harts} "
+                        f"wait{'s' * (len(self.waiting) == 1)}")
         return said + [f"end: {self.bucket.line()}", *self.teller.places.trouble()]
 
     def beside(self, switch: Switch) -> list[str]:
         """The command that opens the row after which a hart stops."""
-        row, asked = switch.stopped, self.asked
+        row = switch.stopped
+        asked = self.asked
         program = asked.program
-        return ["     " + line for line in ready(asked.new_log.path, program.elf, program.named, row.hart, row.ic)] if row else []
+        return ["     " + line for line in ready(asked.new_log.path, program.elf, program.named,
+                                                 row.hart, row.ic)] if row else []
 
     def answer(self) -> dict[str, Any]:
         return {"order": self.order(), "pieces": [list(piece) for piece in self.pieces[:LONGEST]],
-                "recorded_pieces": self.found.recorded_pieces, "recorded_turns": self.found.recorded_turns,
-                "turns": size_of(self.pieces)[1], "recordings": self.found.tries.count, "waiting": list(self.waiting),
+                "recorded_pieces": self.found.recorded_pieces,
+                "recorded_turns": self.found.recorded_turns, "turns": size_of(self.pieces)[1],
+                "recordings": self.found.tries.count, "waiting": list(self.waiting),
                 "is_done": not self.found.tries.is_ended(), "end": self.bucket.line(),
                 "switches": [answer_of(self.teller, one) for one in self.switches[:LONGEST]]}

@@ -1,4 +1,5 @@
-"""Shrinks the input of a recording: searches, saves the shortest that is found, and tells what it does."""
+"""Shrinks the input of a recording: searches, saves the shortest that is found, and tells what it
+does."""
 from __future__ import annotations
 
 import os
@@ -47,7 +48,8 @@ class Asked:
 
 
 class FirstSuspects(NamedTuple):
-    """The place of the first suspect of the short run and of LOG, and whether LOG has the first among its own."""
+    """The place of the first suspect of the short run and of LOG, and whether LOG has the first
+    among its own."""
     short: str
     recorded: str
     is_known: bool
@@ -55,7 +57,8 @@ class FirstSuspects(NamedTuple):
     def lines(self) -> list[str]:
         if self.is_known:
             return [f"first suspect: {self.short}"]
-        return [f"first suspect: {self.short}, which is none of LOG's: its cause may be another; `why` of LOG names first {self.recorded}"]
+        return [f"first suspect: {self.short}, which is none of LOG's: its cause may be another; "
+                f"`why` of LOG names first {self.recorded}"]
 
 
 class ShrunkInput(NamedTuple):
@@ -74,8 +77,10 @@ def suspects_of(log: str, asked: Asked) -> list[str]:
 def first_suspects(made: Recording, asked: Asked) -> Optional[FirstSuspects]:
     if made.status != FAULT:
         return None
-    short, recorded = suspects_of(made.log, asked), suspects_of(asked.log, asked)
-    return FirstSuspects(short[0], recorded[0], short[0] in recorded) if short and recorded else None
+    short = suspects_of(made.log, asked)
+    recorded = suspects_of(asked.log, asked)
+    return (FirstSuspects(short[0], recorded[0], short[0] in recorded) if short and recorded
+            else None)
 
 
 def begin(asked: Asked, quick: Quick) -> InputSearch:
@@ -84,11 +89,13 @@ def begin(asked: Asked, quick: Quick) -> InputSearch:
     tries = InputTries(asked.options, ends, len(os.sched_getaffinity(0)))
     made = tries.record(asked.data)
     if made.read.ends[HART] != load_log(asked.log).ends.get(HART):
-        raise CompanionError(f"LOG isn't the recording of {asked.source}: with it the run ends otherwise", REFUSED)
+        raise CompanionError(f"LOG isn't the recording of {asked.source}: "
+                             "with it the run ends otherwise", REFUSED)
     if asked.says and ends.says not in ends.written(made):
         raise CompanionError(f"the run of LOG doesn't write {asked.says!r}", REFUSED)
     if not asked.says and made.status not in (FAULT, LIMIT) and not exit_code(made.read.ends):
-        raise CompanionError("the run of LOG ended well; --says TEXT tells a text that it writes and shouldn't", REFUSED)
+        raise CompanionError("the run of LOG ended well; "
+                             "--says TEXT tells a text that it writes and shouldn't", REFUSED)
     tries.want(made)
     return InputSearch(tries, asked.data)
 
@@ -100,20 +107,22 @@ def shrink_input(asked: Asked) -> ShrunkInput:
             found.run()
             asked.new.save(found.best)
         if found.tries.is_ended():
-            streams.say("the search was ended before it was done: the input may be longer than it need be")
+            streams.say("the search was ended before it was done: "
+                        "the input may be longer than it need be")
         options = options_of(asked, found)
         found.tries.options = dict(options)
         made = found.tries.record(found.best)
         with closing(asked.program) as program:
             bucket = bucket_of(cause_of(made.read, program.elf.name), program.elf, program.places)
         suspects = None if signals.status else first_suspects(made, asked)
-        return ShrunkInput(lines_of(asked, found, made, bucket, suspects), answer_of(asked, found, made, bucket, suspects),
-                           signals.status)
+        return ShrunkInput(lines_of(asked, found, made, bucket, suspects),
+                           answer_of(asked, found, made, bucket, suspects), signals.status)
 
 
 def options_of(asked: Asked, found: InputSearch) -> dict[str, str]:
     """Those of LOG. A run that hangs does so under the limit that the search came to, too."""
-    limit = {"--limit": found.tries.options["--limit"]} if isinstance(found.tries.wanted, Loop) else {}
+    limit = ({"--limit": found.tries.options["--limit"]} if isinstance(found.tries.wanted, Loop)
+             else {})
     return {**asked.options, **limit}
 
 
@@ -122,18 +131,23 @@ def counts_of(asked: Asked, made: Recording) -> tuple[int, int]:
     return load_log(asked.log).ends[HART].count, made.read.ends[HART].count
 
 
-def lines_of(asked: Asked, found: InputSearch, made: Recording, bucket: Bucket, suspects: Optional[FirstSuspects]) -> list[str]:
+def lines_of(asked: Asked, found: InputSearch, made: Recording, bucket: Bucket,
+             suspects: Optional[FirstSuspects]) -> list[str]:
     before, after = counts_of(asked, made)
     options = [f"{name}={value}" for name, value in options_of(asked, found).items()]
-    again = ["zelkuma", "record", *options, f"--input={asked.new.path}", "--", asked.program.elf.name, "LOG", "BOOK"]
-    return [f"{counted(len(asked.data), 'byte')} of input are cut to {number(len(found.best))}, by "
-            f"{number(found.tries.count)} recordings; {counted(before, 'instruction')} to {number(after)}",
-            f"input: {quoted(found.best)}", f"end: {bucket.line()}", *(suspects.lines() if suspects else []), shlex.join(again)]
+    again = ["zelkuma", "record", *options, f"--input={asked.new.path}", "--",
+             asked.program.elf.name, "LOG", "BOOK"]
+    return [f"{counted(len(asked.data), 'byte')} of input are cut to {number(len(found.best))}, "
+            f"by {number(found.tries.count)} recordings; "
+            f"{counted(before, 'instruction')} to {number(after)}", f"input: {quoted(found.best)}",
+            f"end: {bucket.line()}", *(suspects.lines() if suspects else []), shlex.join(again)]
 
 
-def answer_of(asked: Asked, found: InputSearch, made: Recording, bucket: Bucket, suspects: Optional[FirstSuspects]) -> dict[str, Any]:
+def answer_of(asked: Asked, found: InputSearch, made: Recording, bucket: Bucket,
+              suspects: Optional[FirstSuspects]) -> dict[str, Any]:
     before, after = counts_of(asked, made)
-    return {"recorded_bytes": len(asked.data), "bytes": len(found.best), "recordings": found.tries.count,
-            "recorded_instructions": before, "instructions": after, "is_done": not found.tries.is_ended(),
-            "end": bucket.line(), "suspect": suspects.short if suspects else None,
-            "recorded_suspect": suspects.recorded if suspects else None, "is_known": suspects.is_known if suspects else None}
+    return {"recorded_bytes": len(asked.data), "bytes": len(found.best),
+            "recordings": found.tries.count, "recorded_instructions": before, "instructions": after,
+            "is_done": not found.tries.is_ended(), "end": bucket.line(), "suspect": suspects.short
+            if suspects else None, "recorded_suspect": suspects.recorded if suspects else None,
+            "is_known": suspects.is_known if suspects else None}

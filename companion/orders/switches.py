@@ -16,14 +16,18 @@ class Bounded(NamedTuple):
     before: Optional[Row]
 
 
-def bounded(pieces: Pieces, lines: Sequence[Sequence[bytes]], windows: Sequence[Window]) -> list[Bounded]:
+def bounded(pieces: Pieces, lines: Sequence[Sequence[bytes]],
+            windows: Sequence[Window]) -> list[Bounded]:
     """The switches between the pieces that have lines. Windows are known of all, or of none."""
     found = []
     for at, switch in enumerate(switches_of(pieces, lines)):
-        after, before = None, None
+        after = None
+        before = None
         if at < len(windows):
-            done = [line for piece, each in zip(lines[:at + 1], pieces) if each.hart == switch.hart for line in piece]
-            after, before = parse_row(done[-1 - windows[at].earlier]), windows[at].before
+            done = [line for piece, each in zip(lines[:at + 1], pieces) if each.hart == switch.hart
+                    for line in piece]
+            after = parse_row(done[-1 - windows[at].earlier])
+            before = windows[at].before
         found.append(Bounded(switch, after, before))
     return found
 
@@ -34,23 +38,26 @@ def window_lines(teller: Teller, one: Bounded) -> list[str]:
     if one.before is None:
         return [f"     it has to come after {teller.where(one.after)}"]
     after, before = (teller.where(row) + "".join(f" (in {place})" for place in inlined)
-                     for row, inlined in zip((one.after, one.before), parted(teller, one.after, one.before)))
+                     for row, inlined in zip((one.after, one.before),
+                                             parted(teller, one.after, one.before)))
     return [f"     it has to come between {after} and {before}"]
 
 
 def parted(teller: Teller, *rows: Row) -> list[list[str]]:
-    """Of each row the place of the call in which the rows part, if that is a call into which it is inlined; else of the next
-    one."""
+    """Of each row the place of the call in which the rows part, if that is a call into which it is
+    inlined; else of the next one."""
     frames = [list(teller.places.frames(row.pc)) for row in rows]
     while all(frames) and len({each[-1] for each in frames}) == 1:
         for each in frames:
             each.pop()
     is_one_function = all(frames) and len({each[-1].function for each in frames}) == 1
-    return [[frame_text(each[-1 if is_one_function else 1])] if len(each) > 1 else [] for each in frames]
+    return [[frame_text(each[-1 if is_one_function else 1])] if len(each) > 1 else []
+            for each in frames]
 
 
 def answer_of(teller: Teller, one: Bounded) -> dict[str, Any]:
-    after, before = teller.point(one.after), teller.point(one.before)
+    after = teller.point(one.after)
+    before = teller.point(one.before)
     if one.after and one.before and after and before:
         after["inlined"], before["inlined"] = parted(teller, one.after, one.before)
     return {**teller.answer(one.switch), "after": after, "before": before}

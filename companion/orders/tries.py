@@ -1,5 +1,5 @@
-"""Tries lists of turns side by side. The first in their order that ends as wanted wins, so that the answer is the same
-however many are under way."""
+"""Tries lists of turns side by side. The first in their order that ends as wanted wins, so that the
+answer is the same however many are under way."""
 from __future__ import annotations
 
 from contextlib import closing
@@ -26,20 +26,24 @@ class Try(Attempt):
 
     asked  the list; turns: the same as bytes"""
 
-    def __init__(self, quick: Quick, options: Mapping[str, str], elf: str, number: int, asked: Pieces) -> None:
-        self.asked, self.turns = asked, turns_of(asked)
+    def __init__(self, quick: Quick, options: Mapping[str, str], elf: str,
+                 number: int, asked: Pieces) -> None:
+        self.asked = asked
+        self.turns = turns_of(asked)
         super().__init__(quick, options, elf, number, self.turns, False)
 
 
 class Tries(SideBySide[Try, Pieces]):
     """options      those of `record`
-    leaves_rest  whether a list counts only as far as it was asked for, and what comes behind it is left to seed 0
+    leaves_rest  whether a list counts only as far as it was asked for, and what comes behind it is
+                 left to seed 0
     ends_within  whether a run has to end by what was asked for
     most_counts  how many instructions a hart did at most in the recording that is wanted"""
 
     def __init__(self, options: Mapping[str, str], ends: Ends, jobs: int) -> None:
         super().__init__(jobs)
-        self.options, self.ends = dict(options), ends
+        self.options = dict(options)
+        self.ends = ends
         self.leaves_rest = self.ends_within = False
         self.rough: Hashable = None
         self.exact: Exact = Over()
@@ -48,7 +52,8 @@ class Tries(SideBySide[Try, Pieces]):
 
     def want(self, made: Recording) -> None:
         """From here on a try is wanted that ends as this recording."""
-        self.rough, self.exact = self.ends.rough(made), self.ends.exact(made)
+        self.rough = self.ends.rough(made)
+        self.exact = self.ends.exact(made)
         self.most_counts = max(end.count for end in made.read.ends.values())
 
     def record(self, pieces: Pieces) -> Recording:
@@ -64,15 +69,18 @@ class Tries(SideBySide[Try, Pieces]):
     def first(self, candidates: Iterable[Pieces], most: tuple[int, int]) -> Optional[Held]:
         """The first candidate that ends as wanted and is smaller than `most` says."""
         with closing(self.judged_in_order(candidates, most)) as judged:
-            return next((Held(at, pieces) for at, pieces in enumerate(judged) if pieces is not None), None)
+            return next((Held(at, pieces)
+                         for at, pieces in enumerate(judged) if pieces is not None), None)
 
     def each(self, candidates: Sequence[Pieces]) -> list[bool]:
-        """Of each candidate whether it ends as wanted; of those that the search's end left out, not."""
+        """Of each candidate whether it ends as wanted; of those that the search's end left out,
+        not."""
         with closing(self.judged_in_order(candidates, ANY)) as judged:
             found = [pieces is not None for pieces in judged]
         return found + [False] * (len(candidates) - len(found))
 
-    def judged_in_order(self, candidates: Iterable[Pieces], most: tuple[int, int]) -> Generator[Optional[Pieces], None, None]:
+    def judged_in_order(self, candidates: Iterable[Pieces],
+                        most: tuple[int, int]) -> Generator[Optional[Pieces], None, None]:
         """Of each candidate its turns, or None."""
         return self.in_order(candidates, lambda one: self.judged(one, most))
 
@@ -82,7 +90,8 @@ class Tries(SideBySide[Try, Pieces]):
         made = one.made()
         if self.ends.rough(made) != self.rough:
             return None
-        turns, asked = made.turns(), one.turns
+        turns = made.turns()
+        asked = one.turns
         needed = followed(asked, turns) if self.leaves_rest else turns
         pieces = one.asked if needed == asked else pieces_of(needed)
         if size_of(pieces) >= most or (self.ends_within and not asked.startswith(turns)):
@@ -112,4 +121,5 @@ def followed(asked: bytes, turns: bytes) -> bytes:
     """The turns that were asked for, as far as they were legal."""
     if turns.startswith(asked):
         return asked
-    return turns[:next((at for at, pair in enumerate(zip(asked, turns)) if pair[0] != pair[1]), len(turns))]
+    return turns[:next((at for at, pair in enumerate(zip(asked, turns)) if pair[0] != pair[1]),
+                       len(turns))]

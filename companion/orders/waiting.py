@@ -1,5 +1,6 @@
-"""For which words a hart at its limit waits. Of the run that is wanted its loop is looked for in its rows; whether another
-run waits in that loop too is told by the text of its last rows, which is far cheaper."""
+"""For which words a hart at its limit waits. Of the run that is wanted its loop is looked for in
+its rows; whether another run waits in that loop too is told by the text of its last rows, which is
+far cheaper."""
 from __future__ import annotations
 
 import re
@@ -17,7 +18,9 @@ STAY_ROWS = 200000          # of a hart's last rows are read for how long it is 
 LOOP_ROWS = 1500, 10000     # in so many of them its loop is looked for
 NEAR_ROWS = 300             # about so many are looked at first
 NEAR = 0.9                  # the share of them that has to be in a known loop
-LONGEST_ROW, MEAN_ROW = 160, 70     # bytes
+# Bytes
+LONGEST_ROW = 160
+MEAN_ROW = 70
 MOST_SPILLS = 8             # so often is a value followed through the stack
 PC = re.compile(rb"^\d+ \d+ (\w{8}) ", re.M)
 
@@ -72,7 +75,8 @@ def stay_of(log: Log, hart: int, text: bytes) -> Stay:
     loads = [operand.load for item in loop.exits if item.leads_out for operand in item.operands]
     words = {(trace.rows.code_of(load).pc, trace.rows.access(load).address & ~3)
              for load in (unspilled(trace, load) for load in loads if load)}
-    known = Stay(tuple(sorted(trace.rows.codes[at].pc for at in loop.places)), tuple(sorted(words)), 0)
+    known = Stay(tuple(sorted(trace.rows.codes[at].pc for at in loop.places)),
+                 tuple(sorted(words)), 0)
     if not known.places:
         return known
     outside = list(map(int, known.outside().findall(b"\n" + text)))
@@ -86,15 +90,17 @@ def stay_like(log: Log, hart: int, text: bytes, known: Stay) -> Optional[Stay]:
         counts = [*map(int, known.outside().findall(b"\n" + text)), log.ends[hart].count]
         stay = behind(text, hart, counts[:-1])
         if has_stayed(counts, stay, known):
-            return known._replace(turns=turns_of_stay(stay)) if has_loads(text, known.loads) else None
+            return (known._replace(turns=turns_of_stay(stay)) if has_loads(text, known.loads)
+                    else None)
     return stay_of(log, hart, text) if sum(near) >= NEAR * len(near) else None
 
 
 def has_stayed(counts: Sequence[int], stay: bytes, known: Stay) -> bool:
-    """Whether a hart's stay, which comes behind some counts, is more than twice as long as any that it left, and longer than
-    some rounds."""
+    """Whether a hart's stay, which comes behind some counts, is more than twice as long as any that
+    it left, and longer than some rounds."""
     *others, last = map(sub, counts, [counts[0], *counts])
-    return 2 * max(others, default=0) < last and all(stay.count(b" %08x " % pc) >= LONGER for pc in known.places)
+    return 2 * max(others, default=0) < last and all(stay.count(b" %08x " % pc) >= LONGER
+                                                     for pc in known.places)
 
 
 def behind(text: bytes, hart: int, counts: Sequence[int]) -> bytes:
@@ -115,18 +121,22 @@ def has_loads(text: bytes, loads: Sequence[tuple[int, int]]) -> bool:
 
 
 def turns_of_stay(stay: bytes) -> int:
-    """How many turns ended in some last rows. It is fast, and may leave out some that end with no access."""
+    """How many turns ended in some last rows. It is fast, and may leave out some that end with no
+    access."""
     last = stay[stay.rfind(b"\n", 0, stay.rfind(b"\nend ")):]
     atomics = len(re.findall(rb" load \w+=\w+ \| store ", stay))
-    has_rest = b" load " not in last and b" store " not in last     # the last turn ended at the limit
+    # The last turn ended at the limit
+    has_rest = b" load " not in last and b" store " not in last
     return stay.count(b" | load ") + stay.count(b" | store ") - atomics + has_rest
 
 
 def unspilled(trace: Trace, load: int) -> int:
-    """The load behind a load: one that takes back what this hart put on the stack leads to where that came from."""
+    """The load behind a load: one that takes back what this hart put on the stack leads to where
+    that came from."""
     for _ in range(MOST_SPILLS):
         store = trace.writers.word[load]
-        source = load_behind(trace, trace.writers.second[store]) if store and trace.rows.code_of(store).kind == STORE else 0
+        source = (load_behind(trace, trace.writers.second[store])
+                  if store and trace.rows.code_of(store).kind == STORE else 0)
         if not source:
             break
         load = source

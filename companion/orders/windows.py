@@ -1,4 +1,5 @@
-"""How far each switch of a list of turns can be moved with the same end: the interval in which it has to lie."""
+"""How far each switch of a list of turns can be moved with the same end: the interval in which it
+has to lie."""
 from __future__ import annotations
 
 from dataclasses import dataclass
@@ -25,7 +26,8 @@ class Window(NamedTuple):
 
 @dataclass
 class Side:
-    """The search for how far a switch can be moved one way: it doubles the way, and then halves what is between.
+    """The search for how far a switch can be moved one way: it doubles the way, and then halves
+    what is between.
 
     low   so far it can; high: so far it can't; most: so far it is tried"""
     at: int
@@ -45,8 +47,10 @@ class Side:
 
 
 def shifted(pieces: Pieces, at: int, turns: int, slack: int) -> Pieces:
-    """The piece gets so many turns of its hart's next one, or gives them to it; the last one gets some more."""
-    found, again = list(pieces), again_at(pieces, at)
+    """The piece gets so many turns of its hart's next one, or gives them to it; the last one gets
+    some more."""
+    found = list(pieces)
+    again = again_at(pieces, at)
     found[at] = Piece(pieces[at].hart, pieces[at].turns + turns)
     if again >= 0:
         found[again] = Piece(pieces[again].hart, pieces[again].turns - turns)
@@ -62,7 +66,8 @@ def sides_of(pieces: Pieces) -> Iterator[Side]:
 
 
 def windows_of(tries: Tries, pieces: Pieces) -> list[Window]:
-    """A window for each switch, if they aren't many. Both ends of a side are tried; between them it is taken to be alike."""
+    """A window for each switch, if they aren't many. Both ends of a side are tried; between them it
+    is taken to be alike."""
     if len(pieces) > MOST_PIECES:
         return []
     sides = list(sides_of(pieces))
@@ -72,17 +77,20 @@ def windows_of(tries: Tries, pieces: Pieces) -> list[Window]:
         asked = [(side, side.next()) for side in sides if side.next()]
         if not asked:
             break
-        holds = tries.each([shifted(pieces, side.at, side.sign * way, slack) for side, way in asked])
+        holds = tries.each([shifted(pieces, side.at, side.sign * way, slack)
+                            for side, way in asked])
         for (side, way), good in zip(asked, holds):
             side.take(way, good)
     tries.ends_within = False
     if tries.stopped:
         return []
-    return [Window(one.low, other.low, row_behind(tries, pieces, one.at, other)) for one, other in zip(sides[::2], sides[1::2])]
+    return [Window(one.low, other.low, row_behind(tries, pieces, one.at, other))
+            for one, other in zip(sides[::2], sides[1::2])]
 
 
 def row_behind(tries: Tries, pieces: Pieces, at: int, later: Side) -> Optional[Row]:
-    """The row before which a switch has to come: that of the first turn with which it comes too late."""
+    """The row before which a switch has to come: that of the first turn with which it comes too
+    late."""
     if later.high is None and again_at(pieces, at) < 0:
         return None
     hart = pieces[at].hart

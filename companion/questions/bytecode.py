@@ -1,9 +1,11 @@
-"""Evaluates gdb's agent bytecode, to which gdb compiles a C expression: a stack of 64-bit words, registers and memory."""
+"""Evaluates gdb's agent bytecode, to which gdb compiles a C expression: a stack of 64-bit words,
+registers and memory."""
 from __future__ import annotations
 
 from typing import Callable, Dict, List, Sequence, Tuple
 
-WIDTH, MASK = 64, (1 << 64) - 1
+WIDTH = 64
+MASK = (1 << 64) - 1
 ADDRESS = 0xffffffff
 Operation = Tuple[int, str, int]            # its place in the code, its name, and its operand or 0
 Code = Sequence[Operation]
@@ -59,8 +61,8 @@ READS = {f"ref{8 * size}": size for size in (1, 2, 4, 8)}
 
 
 def evaluate(code: Code, register: Callable[[int], int], read: Callable[[int, int], int]) -> int:
-    """What some code gives. `register` tells one by its number, `read` so many bytes of memory. Jumps lead forward alone, so that
-    it ends: gdb makes no others."""
+    """What some code gives. `register` tells one by its number, `read` so many bytes of memory.
+    Jumps lead forward alone, so that it ends: gdb makes no others."""
     stack: List[int] = []
     at = 0
     for place, name, operand in code:

@@ -34,14 +34,16 @@ class Costs:
         self.inner[key] += count - call.count
 
     def lines(self) -> list[str]:
-        said = ["# callgrind format", "version: 1", "creator: zelkuma", f"cmd: {os.path.basename(self.asked.elf.name)}",
-                "positions: line", "events: Instructions", ""]
+        said = ["# callgrind format", "version: 1", "creator: zelkuma",
+                f"cmd: {os.path.basename(self.asked.elf.name)}", "positions: line",
+                "events: Instructions", ""]
         functions: dict[tuple[str, str], list[str]] = {}
         for place, cost in sorted(self.own.items()):
             functions.setdefault(place[:2], []).append(f"{place[2]} {cost}")
         for (source, callee), times in sorted(self.times.items()):
             functions.setdefault(source[:2], []).extend([
-                f"cfi={callee[0]}", f"cfn={callee[1]}", f"calls={times} {callee[2]}", f"{source[2]} {self.inner[source, callee]}"])
+                f"cfi={callee[0]}", f"cfn={callee[1]}", f"calls={times} {callee[2]}",
+                f"{source[2]} {self.inner[source, callee]}"])
         for (file, function), costs in functions.items():
             said += [f"fl={file}", f"fn={function}", *costs, ""]
         return said

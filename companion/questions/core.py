@@ -1,5 +1,5 @@
-"""An ELF core file: the registers of each hart at the end or before a row, and what is known of memory then. Gdb takes each hart
-for a thread."""
+"""An ELF core file: the registers of each hart at the end or before a row, and what is known of
+memory then. Gdb takes each hart for a thread."""
 from __future__ import annotations
 
 import re
@@ -22,11 +22,17 @@ from .reading import Asked
 
 LOWEST = 4096               # no address below is mapped
 MOST_PIECES = 60000         # a file's head counts its parts in 16 bits
-MASK, SIGN = 0xffffffff, 1 << 31
-NOTES, LOADED, STATUS = 4, 1, 1                             # of the ELF format: kinds of parts and of a note
-READ_AND_WRITE, PART_HEAD = 6, 32
-SIGNALS: dict[str, int] = {"Illegal": signal.SIGILL, "Breakpoint": signal.SIGTRAP, "Misaligned": signal.SIGBUS,
-                           "Outside": signal.SIGSEGV, "ReadOnly": signal.SIGSEGV}
+MASK = 0xffffffff
+SIGN = 1 << 31
+# Of the ELF format: kinds of parts and of a note
+NOTES = 4
+LOADED = 1
+STATUS = 1
+READ_AND_WRITE = 6
+PART_HEAD = 32
+SIGNALS: dict[str, int] = {"Illegal": signal.SIGILL, "Breakpoint": signal.SIGTRAP,
+                           "Misaligned": signal.SIGBUS, "Outside": signal.SIGSEGV,
+                           "ReadOnly": signal.SIGSEGV}
 
 
 class Piece(NamedTuple):
@@ -42,9 +48,12 @@ class Place:
     is_found whether the asked row came"""
 
     def __init__(self, asked: Asked, row: Optional[At]) -> None:
-        self.asked, self.row, self.is_found = asked, row, False
+        self.asked = asked
+        self.row = row
+        self.is_found = False
         self.followed = FollowedMemory(asked.log, asked.elf, asked.is_whole)
-        self.counts = {hart: first.start for hart, first in asked.log.first_intervals().items() if not first.start}
+        self.counts = {hart: first.start
+                       for hart, first in asked.log.first_intervals().items() if not first.start}
 
     def read(self) -> None:
         for text in self.asked.chunks():
@@ -65,7 +74,8 @@ class Place:
 
 
 class State(NamedTuple):
-    """A hart's: `registers` are its pc and x1 to x31. `reason` is that of its end, if it stands there."""
+    """A hart's: `registers` are its pc and x1 to x31. `reason` is that of its end, if it stands
+    there."""
     hart: int
     registers: list[int]
     reason: str
@@ -76,17 +86,20 @@ class State(NamedTuple):
         return next((number for end, number in SIGNALS.items() if self.reason.endswith(end)), 0)
 
     def note(self, sent: int) -> bytes:
-        """The state as Linux notes it of a thread of 32 bits, whose number is the hart's and 1, as in `gdb`. Each thread has the
-        signal that ended them all."""
+        """The state as Linux notes it of a thread of 32 bits, whose number is the hart's and 1, as
+        in `gdb`. Each thread has the signal that ended them all."""
         body = struct.pack("<I8xH10xI44x32I4x", sent, sent, self.hart + 1, *self.registers)
         return struct.pack("<III", 5, len(body), STATUS) + b"CORE\0\0\0\0" + body
 
 
 def state_of(asked: Asked, hart: int, count: int) -> State:
-    """A hart's state at a count: the registers at its interval's beginning, and what the rows from there on wrote."""
+    """A hart's state at a count: the registers at its interval's beginning, and what the rows from
+    there on wrote."""
     log = asked.log
     interval = next(one for one in reversed(log.by_hart()[hart]) if one.start <= count)
-    registers, last, behind = list(interval.registers), b"", b"\n%d %d " % (hart, count)
+    registers = list(interval.registers)
+    last = b""
+    behind = b"\n%d %d " % (hart, count)
     for text in rows_between(log, asked.elf.name, hart, interval.start, count + 1):
         rows, at_place, rest = text.partition(behind)
         if rows:
@@ -127,11 +140,13 @@ def is_taken(comparison: int, one: int, other: int) -> bool:
 
 def pieces_of(memory: Memory, size: int) -> Iterator[Piece]:
     """What is known, in pieces."""
-    body, known = bytearray(size), bytearray(bytes([memory.is_whole])) * (size >> 2)
+    body = bytearray(size)
+    known = bytearray(bytes([memory.is_whole])) * (size >> 2)
     for part in memory.elf.parts:
         if memory.is_whole or not part.flags & WRITABLE:
             body[part.address:part.address + len(part.body)] = part.body
-            first, end = part.address + 3 >> 2, part.address + part.size >> 2
+            first = part.address + 3 >> 2
+            end = part.address + part.size >> 2
             known[first:end] = b"\1" * (end - first)
     for word, value in memory.known.items():
         struct.pack_into("<I", body, word, value)
@@ -144,15 +159,18 @@ def pieces_of(memory: Memory, size: int) -> Iterator[Piece]:
 
 
 def core_file(states: list[State], pieces: list[Piece]) -> bytes:
-    """The file. The first state is that of the hart that gdb shows at first, and whose fault it tells."""
+    """The file. The first state is that of the hart that gdb shows at first, and whose fault it
+    tells."""
     notes = CORE_MARK + b"".join(state.note(states[0].signal) for state in states)
     first = CORE_HEAD_BYTES + len(notes)
     heads = [struct.pack("<8I", NOTES, CORE_HEAD_BYTES, 0, 0, len(notes), 0, 0, 4)]
     at = first + PART_HEAD * (1 + len(pieces))
     for address, body in pieces:
-        heads.append(struct.pack("<8I", LOADED, at, address, 0, len(body), len(body), READ_AND_WRITE, 1))
+        heads.append(struct.pack("<8I", LOADED, at, address, 0, len(body), len(body),
+                                 READ_AND_WRITE, 1))
         at += len(body)
-    head = CORE_HEAD + struct.pack("<IIIIHHHHHH", 0, first, 0, 0, CORE_HEAD_BYTES, PART_HEAD, len(heads), 0, 0, 0)
+    head = CORE_HEAD + struct.pack("<IIIIHHHHHH", 0, first, 0, 0, CORE_HEAD_BYTES,
+                                   PART_HEAD, len(heads), 0, 0, 0)
     return b"".join([head, notes, *heads, *(piece.body for piece in pieces)])
 
 
@@ -165,28 +183,35 @@ class Saved(NamedTuple):
 
 def core(asked: Asked, row: Optional[At]) -> Saved:
     """The core file of the end, or of the place before a row."""
-    log, place = asked.log, Place(asked, row)
+    log = asked.log
+    place = Place(asked, row)
     place.read()
     if row and not place.is_found:
         if log.unread:
-            raise CompanionError(f"{row.hart}:{row.count} isn't among the rows that were read; --rows N reads more", NO_INTERVAL)
+            raise CompanionError(f"{row.hart}:{row.count} isn't among the rows that were read; "
+                                 "--rows N reads more", NO_INTERVAL)
         raise no_row(log.name, row)
     ends = {hart: end.count for hart, end in log.ends.items()}
-    states = [state_of(asked, hart, min(count, ends.get(hart, count))) for hart, count in place.counts.items()]
-    states.sort(key=lambda state: (not row or state.hart != row.hart, not is_fault(state.reason), state.hart))
+    states = [state_of(asked, hart, min(count, ends.get(hart, count)))
+              for hart, count in place.counts.items()]
+    states.sort(key=lambda state: (not row or state.hart != row.hart,
+                                   not is_fault(state.reason), state.hart))
     pieces = list(pieces_of(place.followed.memory, log.memory))
     kept = pieces[:MOST_PIECES]
     size = sum(len(piece.body) for piece in kept)
-    return Saved(core_file(states, kept), f"{counted(len(states), 'hart')} and {counted(size, 'byte')} of memory",
+    return Saved(core_file(states, kept),
+                 f"{counted(len(states), 'hart')} and {counted(size, 'byte')} of memory",
                  what_is_missing(asked, states, size))
 
 
 def what_is_missing(asked: Asked, states: list[State], size: int) -> list[str]:
-    said, most = [], asked.log.memory - LOWEST
+    said = []
+    most = asked.log.memory - LOWEST
     lost = sorted(set(range(asked.log.harts)) - {state.hart for state in states})
     if lost:
-        said.append(f"{counted(len(lost), 'hart')} left out, whose registers aren't known there: {', '.join(map(str, lost))}")
+        said.append(f"{counted(len(lost), 'hart')} left out, whose registers aren't known there: "
+                    f"{', '.join(map(str, lost))}")
     if size < most:
-        said.append(f"Of {number(most)} bytes of memory {number(size)} are known: for others gdb shows an error, or what ELF has there, "
-                    "which need not be what the run had.")
+        said.append(f"Of {number(most)} bytes of memory {number(size)} are known: for others gdb "
+                    "shows an error, or what ELF has there, which need not be what the run had.")
     return said

@@ -13,7 +13,8 @@ PCS = re.compile(rb"\n\d+ \d+ (\w{8}) ")
 
 @dataclass(frozen=True)
 class Open:
-    """A call that hasn't returned: its function's address, that of the call, the hart's count, the row's number, and how deep it is."""
+    """A call that hasn't returned: its function's address, that of the call, the hart's count, the
+    row's number, and how deep it is."""
     function: int
     call: int
     count: int
@@ -44,4 +45,5 @@ class Flow:
             while calls and calls[-1].depth > move.behind[2]:
                 self.left(int(move.hart), calls.pop(), move.ic, place)
         if move.is_call:
-            calls.append(Open(int(move.target, 16), move.jump.code.pc, move.ic, place, move.behind[2]))
+            calls.append(Open(int(move.target, 16), move.jump.code.pc, move.ic,
+                              place, move.behind[2]))

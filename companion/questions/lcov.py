@@ -12,16 +12,19 @@ from .reading import Asked
 
 
 def lcov(asked: Asked) -> str:
-    """A line was done as often as the address of it that was done most, and a function as often as it was called: its first row can be
-    that of a loop, too. The library's end of functions isn't called, but a part of each."""
+    """A line was done as often as the address of it that was done most, and a function as often as
+    it was called: its first row can be that of a loop, too. The library's end of functions isn't
+    called, but a part of each."""
     done: Counter[bytes] = Counter()
-    calls = Counter(each.registers[0] for each in asked.log.first_intervals().values() if each.end > each.start)
+    calls = Counter(each.registers[0]
+                    for each in asked.log.first_intervals().values() if each.end > each.start)
     stacks = asked.stacks()
     for text in asked.chunks():
         done.update(PCS.findall(text))
         stacks.take(text)
         calls.update(int(move.target, 16) for move in stacks.chunk.moves() if move.is_call)
-    times = {**dict.fromkeys(code_of(asked.named), 0), **{int(pc, 16): times for pc, times in done.items()}}
+    times = {**dict.fromkeys(code_of(asked.named), 0),
+             **{int(pc, 16): times for pc, times in done.items()}}
     asked.places.fetch(times)
     lines: dict[str, Counter[int]] = {}
     for pc, count in times.items():
@@ -35,12 +38,14 @@ def lcov(asked: Asked) -> str:
         if symbol.kind == FUNCTION and frames and frames[-1].line:
             of_function = times if symbol.name.startswith(RESTORES) else calls
             functions.setdefault(frames[-1].path, []).extend([
-                f"FN:{frames[-1].line},{symbol.name}", f"FNDA:{of_function.get(symbol.address, 0)},{symbol.name}"])
+                f"FN:{frames[-1].line},{symbol.name}",
+                f"FNDA:{of_function.get(symbol.address, 0)},{symbol.name}"])
     said = ["TN:zelkuma"]
     for path, counts in sorted(lines.items()):
         said += [f"SF:{source_of(asked, path)}", *functions.get(path, [])]
         said += [f"DA:{line},{count}" for line, count in sorted(counts.items())]
-        said += [f"LF:{len(counts)}", f"LH:{sum(count > 0 for count in counts.values())}", "end_of_record"]
+        said += [f"LF:{len(counts)}",
+                 f"LH:{sum(count > 0 for count in counts.values())}", "end_of_record"]
     return "\n".join(said) + "\n"
 
 

@@ -1,4 +1,5 @@
-"""The registers of a hart at a row: the last row before it that wrote one tells it, else the log's beginning."""
+"""The registers of a hart at a row: the last row before it that wrote one tells it, else the log's
+beginning."""
 from __future__ import annotations
 
 from typing import Iterable, Optional
@@ -12,12 +13,15 @@ from .window import Window
 class Registers:
     """firsts    {hart: its registers at the log's beginning}
     carried   {hart and register: what the last row of it wrote among those that are forgotten}
-    known     {hart and register: the place up to which rows were looked at, and what its value was there, or None}"""
+    known     {hart and register: the place up to which rows were looked at, and what its value was
+              there, or None}"""
 
     def __init__(self, log: Log, window: Window, names: Iterable[str]) -> None:
         """`names` are those that are asked for."""
-        self.window, self.needles = window, {name.encode(): b"| %s=" % name.encode() for name in names}
-        self.firsts = {b"%d" % hart: interval.registers for hart, interval in log.first_intervals().items()}
+        self.window = window
+        self.needles = {name.encode(): b"| %s=" % name.encode() for name in names}
+        self.firsts = {b"%d" % hart: interval.registers
+                       for hart, interval in log.first_intervals().items()}
         self.carried: dict[tuple[bytes, bytes], int] = {}
         self.known: dict[tuple[bytes, bytes], tuple[int, Optional[int]]] = {}
 
@@ -34,14 +38,17 @@ class Registers:
                     self.carried[hart, name] = value_at(text, at + len(needle))
 
     def value(self, hart: bytes, name: bytes, place: int) -> Optional[int]:
-        """A register before the row that begins at a place; None if nothing tells it. Places are asked for in their order."""
-        needle, (looked_at, found) = self.needles[name], self.known.get((hart, name), (-1, None))
+        """A register before the row that begins at a place; None if nothing tells it. Places are
+        asked for in their order."""
+        needle = self.needles[name]
+        looked_at, found = self.known.get((hart, name), (-1, None))
         for at in self.window.found_before(needle, place, max(0, looked_at)):
             if self.window.is_of(hart, at):
                 found = int(self.window.bytes_at(at + len(needle), 8), 16)
                 break
         else:
-            if looked_at < self.window.begins[0]:   # it was forgotten what rows between wrote, or nothing was looked at
+            # It was forgotten what rows between wrote, or nothing was looked at
+            if looked_at < self.window.begins[0]:
                 found = self.carried.get((hart, name), self.at_start(hart, name))
         self.known[hart, name] = place, found
         return found

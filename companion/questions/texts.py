@@ -1,5 +1,6 @@
-"""The texts to which pointers led in memory that a run can change, each as it was at a place of the rows. Only calls that are told need
-them, so they are looked for in a second reading, of the rows that touch them alone."""
+"""The texts to which pointers led in memory that a run can change, each as it was at a place of the
+rows. Only calls that are told need them, so they are looked for in a second reading, of the rows
+that touch them alone."""
 from __future__ import annotations
 
 import itertools
@@ -28,7 +29,8 @@ class Texts:
     def __init__(self, asked: Asked, pointers: Iterable[Pointer]) -> None:
         self.wanted: Deque[Pointer] = deque(sorted(set(pointers)))
         self.told: Dict[Pointer, str] = {}
-        ranges = few_ranges(((each.address, each.address + MOST_TEXT) for each in self.wanted), MOST_RANGES)
+        ranges = few_ranges(((each.address, each.address + MOST_TEXT) for each in self.wanted),
+                            MOST_RANGES)
         self.followed = FollowedMemory(asked.log, asked.elf, asked.is_whole, ranges)
         self.base = 0                           # the place of the latest chunk
 

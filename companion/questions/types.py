@@ -1,4 +1,5 @@
-"""The values of a variable as its type writes them. A type is what inside_gdb tells, or words if no type is known."""
+"""The values of a variable as its type writes them. A type is what inside_gdb tells, or words if no
+type is known."""
 from __future__ import annotations
 
 import struct
@@ -12,8 +13,8 @@ FLOATS = {4: "<f", 8: "<d"}
 
 
 class Leaf(NamedTuple):
-    """A part of a variable that has no parts: its name behind the variable's, its place and its type. `bits` is 0 unless it
-    is a field of bits, which begins at `bit`."""
+    """A part of a variable that has no parts: its name behind the variable's, its place and its
+    type. `bits` is 0 unless it is a field of bits, which begins at `bit`."""
     path: str
     at: int
     type: Type
@@ -31,14 +32,17 @@ def words_type(size: int) -> Type:
 
 
 def bounded(of: Type) -> Type:
-    """A type whose parts lie within it, whatever an ELF file says: one of which they don't is told as bytes."""
+    """A type whose parts lie within it, whatever an ELF file says: one of which they don't is told
+    as bytes."""
     size = of["size"]
     if of["kind"] == "array":
         part = bounded(of["of"])
         return {**of, "of": part} if 0 <= of["count"] * part["size"] <= size else words_type(size)
     if of["kind"] == "fields":
-        fields: list[Dict[str, Any]] = [{**field, "type": bounded(field["type"])} for field in of["fields"]]
-        return {**of, "fields": fields} if all(field["at"] >= 0 and end_of(field) <= size for field in fields) else words_type(size)
+        fields: list[Dict[str, Any]] = [{**field, "type": bounded(field["type"])}
+                                        for field in of["fields"]]
+        return {**of, "fields": fields} if all(field["at"] >= 0 and end_of(field) <= size
+                                               for field in fields) else words_type(size)
     return of
 
 
@@ -55,7 +59,8 @@ def leaves(of: Type, first: int, end: int, path: str = "", at: int = 0) -> Itera
             yield from leaves(of["of"], first, end, f"{path}[{i + of['first']}]", at + i * size)
     elif of["kind"] == "words":
         for place in range(at + ((first - at) & ~3), end, 4):
-            yield Leaf(f"{path}+{place}" if place else path, place, words_type(min(4, at + of["size"] - place)))
+            yield Leaf(f"{path}+{place}" if place else path, place,
+                       words_type(min(4, at + of["size"] - place)))
     elif of["kind"] == "fields":
         for field in of["fields"]:
             name = f"{path}.{field['name']}" if field["name"] else path
@@ -74,7 +79,8 @@ def value_text(leaf: Leaf, data: Bytes, name_of: Callable[[int], str]) -> str:
     known: Optional[bytes] = bytes(byte for byte in data if byte is not None)
     if not known or len(known) < len(data):
         return "unknown"
-    kind, number = leaf.type["kind"], int.from_bytes(known, "little")
+    kind = leaf.type["kind"]
+    number = int.from_bytes(known, "little")
     if kind == "float" and len(known) in FLOATS:
         return f"{struct.unpack(FLOATS[len(known)], known)[0]:g}"
     if kind == "pointer":
@@ -91,8 +97,10 @@ def signed(of: Type, number: int, width: int) -> int:
 
 def number_text(leaf: Leaf, number: int, width: int) -> str:
     if leaf.bits:
-        width, number = leaf.bits, number >> leaf.bit & (1 << leaf.bits) - 1
-    plain, number = number, signed(leaf.type, number, width)
+        width = leaf.bits
+        number = number >> leaf.bit & (1 << leaf.bits) - 1
+    plain = number
+    number = signed(leaf.type, number, width)
     if leaf.type["kind"] == "enum":
         named = leaf.type["names"].get(str(number))
         return f"{named} ({number})" if named else str(number)
@@ -104,14 +112,17 @@ def number_text(leaf: Leaf, number: int, width: int) -> str:
 
 
 def python_value(of: Type, data: bytes, begin: int = 0) -> Any:
-    """The value of a type as one of Python: a number, bytes of letters, a list or a dict. It begins at a place of the data."""
+    """The value of a type as one of Python: a number, bytes of letters, a list or a dict. It begins
+    at a place of the data."""
     if of["kind"] == "array":
         part = of["of"]
         if part["size"] == 1 and "char" in part["name"]:
             return data[begin:begin + of["size"]]
-        return [python_value(part, data, begin + i * part["size"]) for i in range(of["count"] if part["size"] else 0)]
+        return [python_value(part, data, begin + i * part["size"])
+                for i in range(of["count"] if part["size"] else 0)]
     if of["kind"] == "fields":
-        return {field["name"]: field_value(field, data, begin + field["at"]) for field in of["fields"]}
+        return {field["name"]: field_value(field, data, begin + field["at"])
+                for field in of["fields"]}
     data = data[begin:begin + of["size"]]
     if of["kind"] == "float" and len(data) in FLOATS:
         return struct.unpack(FLOATS[len(data)], data)[0]
@@ -122,5 +133,6 @@ def python_value(of: Type, data: bytes, begin: int = 0) -> Any:
 def field_value(field: Dict[str, Any], data: bytes, begin: int) -> Any:
     if "bits" not in field:
         return python_value(field["type"], data, begin)
-    number = int.from_bytes(data[begin:begin + 8], "little") >> field["bit"] & (1 << field["bits"]) - 1
+    number = int.from_bytes(data[begin:begin + 8],
+                            "little") >> field["bit"] & (1 << field["bits"]) - 1
     return signed(field["type"], number, field["bits"])

@@ -1,4 +1,5 @@
-"""What NAME is: a variable or a part of it as DWARF tells it, else a symbol, else an address with a length."""
+"""What NAME is: a variable or a part of it as DWARF tells it, else a symbol, else an address with a
+length."""
 from __future__ import annotations
 
 import difflib
@@ -18,9 +19,11 @@ ADDRESS = re.compile(r"(?:0x([0-9a-f]{1,8})|([0-9a-f]{8}))(?::(\d{1,7}))?", re.I
 OFFSET = re.compile(r"(.+)\+(\d{1,7})(?::(\d{1,7}))?")
 # A variable and its parts. gdb's own commands, functions and `$` have no place in it.
 PART = re.compile(r"(?:'[\w./\-]+'::)?[\w.]+(?:::\w+)*(?:\.\w+|\[\d+\])*")
-WORD, NEAR = 4, 5
+WORD = 4
+NEAR = 5
 AN_ADDRESS = 3              # DWARF's operation for one
-MOST_BYTES = 1 << 22        # of a variable: each word of it that is followed takes 250 bytes of memory
+# Of a variable: each word of it that is followed takes 250 bytes of memory
+MOST_BYTES = 1 << 22
 
 
 class Variable(NamedTuple):
@@ -60,16 +63,19 @@ def variable_of(elf: Elf, name: str) -> Variable:
             if is_in_symbol(elf, variable):
                 return variable
             if found is None:
-                raise CompanionError(f"what DWARF says of {clean(name)} can't be: {counted(variable.size, 'byte')} at "
-                                     f"{variable.address:08x}", BAD_ELF)
+                raise CompanionError(f"what DWARF says of {clean(name)} can't be: "
+                                     f"{counted(variable.size, 'byte')} at {variable.address:08x}",
+                                     BAD_ELF)
     if found is None:
         raise CompanionError(not_found(elf, name, elf.objects) + of_functions(elf, name), MISSING)
     return Variable(name, found.address, words_type(length(found.size or WORD)))
 
 
 def is_in_symbol(elf: Elf, variable: Variable) -> bool:
-    """Whether what DWARF says of a variable can be: it has bytes, and a symbol has all of them if one has the first."""
-    ends = [item.address + item.size for item in elf.objects if item.address <= variable.address < item.address + item.size]
+    """Whether what DWARF says of a variable can be: it has bytes, and a symbol has all of them if
+    one has the first."""
+    ends = [item.address + item.size
+            for item in elf.objects if item.address <= variable.address < item.address + item.size]
     return 1 <= variable.size <= MOST_BYTES and (not ends or variable.end <= max(ends))
 
 
@@ -81,12 +87,14 @@ def length(size: int) -> int:
 
 def symbol_of(elf: Elf, name: str) -> Optional[Symbol]:
     """The symbol of a name: of an object, if there is one."""
-    found = sorted((item for item in elf.symbols if item.name == name), key=lambda item: item.kind % FUNCTION)
+    found = sorted((item for item in elf.symbols if item.name == name),
+                   key=lambda item: item.kind % FUNCTION)
     return found[-1] if found else None
 
 
 def of_functions(elf: Elf, name: str) -> str:
-    """That functions have a variable of a name: how a static one is asked of, and that others have no place of their own."""
+    """That functions have a variable of a name: how a static one is asked of, and that others have
+    no place of their own."""
     base = re.split(r"[.\[+:]", name, maxsplit=1)[0]
     dwarf = Dwarf(elf)
     statics: set[str] = set()
@@ -99,16 +107,19 @@ def of_functions(elf: Elf, name: str) -> str:
         if entry.tag == IN_FUNCTION:
             function = dwarf.name_of(entry)
         left += [(each, function) for each in entry.below]
-    said = [f"a function has it: {', '.join(f'{each}::{name}' for each in sorted(statics)[:NEAR])}"] if statics else []
+    said = ["a function has it: "
+            f"{', '.join(f'{each}::{name}' for each in sorted(statics)[:NEAR])}"] if statics else []
     if others and not statics:
-        said.append(f"it is local in {', '.join(sorted(others)[:NEAR])}, and has no fixed place: gdb shows it (`zelkuma gdb`)")
+        said.append(f"it is local in {', '.join(sorted(others)[:NEAR])}, and has no fixed place: "
+                    "gdb shows it (`zelkuma gdb`)")
     return "".join(f"; {clean(each)}" for each in said)
 
 
 def not_found(elf: Elf, name: str, among: list[Symbol]) -> str:
     """That a name isn't there, and which names are near, or else the first that are there."""
     if not elf.symbols:
-        return f"{clean(name)} isn't there: {os.path.basename(elf.name)} is stripped; --names ELF has names"
+        return (f"{clean(name)} isn't there: {os.path.basename(elf.name)} is stripped; "
+                "--names ELF has names")
     names = sorted({item.name for item in among})
     near = difflib.get_close_matches(re.split(r"[.\[+:]", name, maxsplit=1)[0], names, NEAR, 0.6)
     said = f"; near it: {', '.join(near)}" if near else ""

@@ -1,4 +1,5 @@
-"""The ways of a hart through two runs, compared as their rows come. What a hart did while it waited is no difference."""
+"""The ways of a hart through two runs, compared as their rows come. What a hart did while it waited
+is no difference."""
 from __future__ import annotations
 
 from array import array
@@ -10,18 +11,24 @@ from ..recording.cut import count_of, pc_of
 from ..recording.instruction import AMO, LOAD
 from .waiting import MOST_LOOP, Loops, addresses_of
 
-PIECE, MOST_SKIPS, LOOKED_BACK = 4096, 1000, 16
+PIECE = 4096
+MOST_SKIPS = 1000
+LOOKED_BACK = 16
 
 
 class Way:
     """The rows of a hart that are still to be compared.
 
-    pcs     their addresses; first: the count of the first one; before: the addresses of the last rows before it
+    pcs     their addresses; first: the count of the first one; before: the addresses of the last
+            rows before it
     ended   whether no more come; stopped: because another hart or the limit ended them"""
 
     def __init__(self, hart: int) -> None:
-        self.pcs, self.before = array("I"), array("I")
-        self.first, self.ended, self.stopped = 0, False, False
+        self.pcs = array("I")
+        self.before = array("I")
+        self.first = 0
+        self.ended = False
+        self.stopped = False
         self.hart = hart
 
     def add(self, text: bytes) -> None:
@@ -32,7 +39,8 @@ class Way:
         at = text.rfind(b"\n%d " % self.hart)
         if at >= 0:
             row = row_at(text, at + 1)
-            self.first, self.before = count_of(row) + 1, array("I", [pc_of(row)])
+            self.first = count_of(row) + 1
+            self.before = array("I", [pc_of(row)])
 
     def drop(self, rows: int) -> None:
         if rows:
@@ -42,7 +50,8 @@ class Way:
 
 
 class Skip(NamedTuple):
-    """A place at which a hart had gone another way, but only to wait: the counts of both runs there."""
+    """A place at which a hart had gone another way, but only to wait: the counts of both runs
+    there."""
     good: int
     bad: int
     is_bad: bool                # whether it waited in BAD
@@ -50,7 +59,8 @@ class Skip(NamedTuple):
 
 def common(one: memoryview, other: memoryview) -> int:
     """How many rows from the first on are the same, by halves."""
-    low, high = 0, min(len(one), len(other))
+    low = 0
+    high = min(len(one), len(other))
     if one[:high] == other[:high]:
         return high
     while low + 1 < high:
@@ -62,14 +72,17 @@ def common(one: memoryview, other: memoryview) -> int:
 class Lane:
     """A hart in GOOD and in BAD.
 
-    parted   whether it went another way; if so, the ways stand at the first rows that aren't the same
+    parted   whether it went another way; if so, the ways stand at the first rows that aren't the
+             same
     is_over  whether no more rows are looked at
     waits    whether it waited until a run ended, in which it had gone another way to do so
     skips    the last places at which it waited longer in one run than in the other"""
 
     def __init__(self, hart: int, loops: Loops) -> None:
-        self.hart, self.loops = hart, loops
-        self.good, self.bad = Way(hart), Way(hart)
+        self.hart = hart
+        self.loops = loops
+        self.good = Way(hart)
+        self.bad = Way(hart)
         self.parted = self.is_over = self.waits = False
         self.skips: Deque[Skip] = deque(maxlen=MOST_SKIPS)
         self.steps = self.compare()
@@ -79,7 +92,8 @@ class Lane:
             self.is_over = next(self.steps, True)
 
     def compare(self) -> Iterator[bool]:
-        good, bad = self.good, self.bad
+        good = self.good
+        bad = self.bad
         while True:
             with memoryview(good.pcs) as one, memoryview(bad.pcs) as other:
                 same = common(one, other)
@@ -102,14 +116,17 @@ class Lane:
         return bool(self.good.pcs and self.bad.pcs) and self.good.pcs[0] != self.bad.pcs[0]
 
     def skip_waits(self, way: Way, is_bad: bool) -> Iterator[bool]:
-        """Leaves out rounds of a loop that waits, until a hart goes as in the other run, or does something else."""
-        skip, begin = Skip(self.good.first, self.bad.first, is_bad), way.first
+        """Leaves out rounds of a loop that waits, until a hart goes as in the other run, or does
+        something else."""
+        skip = Skip(self.good.first, self.bad.first, is_bad)
+        begin = way.first
         target = (self.good if is_bad else self.bad).pcs[0]
         while self.differs():
             rows = yield from self.waited(way, target, way.first > begin)
             if not rows:
                 break
-            way.drop(rows + (self.repeated(way, rows) if way.pcs[rows - 1] == way.before[-1] else 0))
+            way.drop(rows + (self.repeated(way, rows) if way.pcs[rows - 1] == way.before[-1]
+                             else 0))
             while not way.pcs and not way.ended:
                 yield False
             self.waits = not way.pcs and way.stopped
@@ -122,31 +139,39 @@ class Lane:
             return common(pcs, behind) // size * size
 
     def waited(self, way: Way, target: int, has_waited: bool) -> Generator[bool, None, int]:
-        """How many rows do nothing but wait, else 0. They lead back to the branch at which the ways parted, or to the row with
-        which the other run continued. Then one of them loads again what had been loaded for the branch."""
-        looked, branch = 0, way.before[-1]
+        """How many rows do nothing but wait, else 0. They lead back to the branch at which the ways
+        parted, or to the row with which the other run continued. Then one of them loads again what
+        had been loaded for the branch."""
+        looked = 0
+        branch = way.before[-1]
         addresses: dict[int, None] = {}
         while True:
             part = way.pcs[looked:looked + PIECE]
-            ends = [part.index(address) + more for address, more in ((branch, 1), (target, 0)) if address in part]
+            ends = [part.index(address) + more
+                    for address, more in ((branch, 1), (target, 0)) if address in part]
             addresses.update(dict.fromkeys(part[:min(ends)] if ends else part))
             if len(addresses) > MOST_LOOP:
                 return 0
             if ends:
                 rows = looked + min(ends)
                 is_round = way.pcs[rows - 1] == branch
-                return rows if self.loops.is_waiting(tuple(addresses)) and (is_round or self.loads_again(way, addresses)) else 0
+                return (rows if self.loops.is_waiting(tuple(addresses))
+                        and (is_round or self.loads_again(way, addresses)) else 0)
             looked += len(part)
             if looked == len(way.pcs):
                 if way.ended:
-                    self.waits = has_waited and way.stopped and self.loops.is_waiting((*addresses, branch))
+                    self.waits = (has_waited and way.stopped
+                                  and self.loops.is_waiting((*addresses, branch)))
                     if self.waits:
                         del way.pcs[:]
                     return 0
                 yield False
 
     def loads_again(self, way: Way, addresses: Iterable[int]) -> bool:
-        """Whether one of these instructions is the load behind the branch, or a copy of it elsewhere."""
+        """Whether one of these instructions is the load behind the branch, or a copy of it
+        elsewhere."""
         *before, branch = map(self.loops.code, way.before)
-        load = next((code for code in reversed(before) if code.rd in (branch.rs1, branch.rs2) and code.rd), branch)
-        return load.kind in (LOAD, AMO) and any(self.loops.code(address).word == load.word for address in addresses)
+        load = next((code for code in reversed(before)
+                     if code.rd in (branch.rs1, branch.rs2) and code.rd), branch)
+        return load.kind in (LOAD, AMO) and any(self.loops.code(address).word == load.word
+                                                for address in addresses)

@@ -1,6 +1,7 @@
 """The latest text of `joint`, and what is looked for in it, backwards from a row.
 
-A place is a number of bytes from the text's beginning. A row begins behind the newline at its place."""
+A place is a number of bytes from the text's beginning. A row begins behind the newline at its
+place."""
 from __future__ import annotations
 
 import bisect
@@ -13,7 +14,9 @@ class Window:
     """texts   chunks of text, in order; begins: their places"""
 
     def __init__(self, kept: int = KEPT) -> None:
-        self.kept, self.size, self.end = kept, 0, 0
+        self.kept = kept
+        self.size = 0
+        self.end = 0
         self.texts: list[bytes] = []
         self.begins: list[int] = []
 
@@ -39,7 +42,8 @@ class Window:
     def found_before(self, word: bytes, place: int, first: int = 0) -> Iterator[int]:
         """The places of a word before another place and not before a first one, latest first."""
         for at in range(bisect.bisect_right(self.begins, place) - 1, -1, -1):
-            text, begin = self.texts[at], self.begins[at]
+            text = self.texts[at]
+            begin = self.begins[at]
             low = max(0, first - begin)
             offset = text.rfind(word, low, max(0, place - begin))
             while offset >= 0:

@@ -17,8 +17,9 @@ Word = Optional[int]
 
 
 class Change(NamedTuple):
-    """A store to a word: its place in the chunk, the word, the values before it of the word before, of this one and of the one
-    after, and the new value. What a `read` call put there isn't known."""
+    """A store to a word: its place in the chunk, the word, the values before it of the word before,
+    of this one and of the one after, and the new value. What a `read` call put there isn't
+    known."""
     place: int
     word: int
     before: tuple[Word, Word, Word]
@@ -39,13 +40,16 @@ class Words:
 
     def __init__(self, asked: Asked, variable: Variable) -> None:
         self.variable = variable
-        self.first, self.end = variable.address & ~3, (variable.end + 3) & ~3
+        self.first = variable.address & ~3
+        self.end = (variable.end + 3) & ~3
         self.fills = Fills(asked.log, variable.address, variable.end)
         self.begins = Begins(asked.log)
         at_start = Memory(asked.elf, asked.is_whole)
-        self.known: dict[int, Word] = {word: at_start.word(word) for word in words_of(variable.address, variable.size)}
+        self.known: dict[int, Word] = {word: at_start.word(word)
+                                       for word in words_of(variable.address, variable.size)}
         self.unknown = {word for word, value in self.known.items() if value is None}
-        self.stores, self.loads = (touching(variable.address, variable.end, kind) for kind in (STORE, LOAD))
+        self.stores, self.loads = (touching(variable.address, variable.end, kind)
+                                   for kind in (STORE, LOAD))
         self.is_aligned = variable.size == self.end - self.first
 
     def changes(self, text: bytes) -> Iterator[Change]:
@@ -59,7 +63,8 @@ class Words:
         for at, kind in events:
             while fills and fills[0][0] < at:
                 yield from self.filled(*fills.pop(0))
-            word, value = int(text[at - 9:at - 1], 16) & LAST_WORD, int(text[at:at + 8], 16)
+            word = int(text[at - 9:at - 1], 16) & LAST_WORD
+            value = int(text[at:at + 8], 16)
             loaded = loaded_before(text, at) if kind == STORE else b""
             if loaded and word in self.known:
                 self.tells(word, int(loaded, 16))
@@ -74,7 +79,8 @@ class Words:
         """Whether the store whose value begins at a place of a text is to the variable."""
         row = text[text.rfind(b"\n", 0, at) + 1:at]
         address = int(row[-9:-1], 16)
-        return address < self.variable.end and self.variable.address < address + WIDTHS.get(operation_of(row), 4)
+        return (address < self.variable.end
+                and self.variable.address < address + WIDTHS.get(operation_of(row), 4))
 
     def around(self, word: int) -> tuple[Word, Word, Word]:
         return self.known.get(word - 4), self.known.get(word), self.known.get(word + 4)
@@ -85,7 +91,8 @@ class Words:
 
     def filled(self, at: int, fill: SystemCall) -> Iterator[Change]:
         """What a `read` call did: no row tells what it put there."""
-        first, end = max(fill.address, self.variable.address), min(fill.address + fill.size, self.variable.end)
+        first = max(fill.address, self.variable.address)
+        end = min(fill.address + fill.size, self.variable.end)
         yield Change(at, first & ~3, self.around(first & ~3), None, fill)
         for word in words_of(first, end - first):
             self.known[word] = None

@@ -1,3 +1,4 @@
-"""Reading a recording: the log, the rows of `joint` and `replay`, the ELF file, lines of addresses, sources that may be shown.
+"""Reading a recording: the log, the rows of `joint` and `replay`, the ELF file, lines of addresses,
+sources that may be shown.
 
 May use: call."""

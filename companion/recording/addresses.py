@@ -16,19 +16,23 @@ Named = Tuple[int, str]     # an address, and what is there
 def addresses_of(elf: Elf, name: str) -> list[Named]:
     found = sorted({(symbol.address, symbol.name) for symbol in elf.symbols if symbol.name == name})
     file, _, line = name.rpartition(":")
-    if found or not (file and line.isascii() and line.isdigit() and len(line) <= LONGEST_LINE_NUMBER):
+    if found or not (file and line.isascii() and line.isdigit()
+                     and len(line) <= LONGEST_LINE_NUMBER):
         return found
     return addresses_of_line(elf, file, int(line))
 
 
 def addresses_of_line(elf: Elf, file: str, line: int) -> list[Named]:
-    """The first address of each piece of code of a line. The tools answer lines of addresses alone, so all code is asked."""
-    found, before = [], False
+    """The first address of each piece of code of a line. The tools answer lines of addresses alone,
+    so all code is asked."""
+    found = []
+    before = False
     with closing(places_of(elf)) as places:
         code = code_of(elf)
         places.fetch(code)
         for pc in code:
-            here = [frame for frame in places.frames(pc) if frame.line == line and is_file(frame.path, file)]
+            here = [frame for frame in places.frames(pc)
+                    if frame.line == line and is_file(frame.path, file)]
             if here and not before:
                 found.append((pc, f"{here[0].function} {here[0].file}:{here[0].line}"))
             before = bool(here)
@@ -36,7 +40,8 @@ def addresses_of_line(elf: Elf, file: str, line: int) -> list[Named]:
 
 
 def code_of(elf: Elf) -> list[int]:
-    """The addresses of all code that the file holds: so many bytes at most, however often it loads them."""
+    """The addresses of all code that the file holds: so many bytes at most, however often it loads
+    them."""
     found: set[int] = set()
     for part in elf.parts:
         if part.flags & EXECUTABLE and len(found) * 4 < MOST_CODE:
@@ -46,5 +51,6 @@ def code_of(elf: Elf) -> list[int]:
 
 def is_file(path: str, name: str) -> bool:
     """Whether a name is a path's end, by whole parts of it."""
-    path, name = os.path.normpath(path), os.path.normpath(name)
+    path = os.path.normpath(path)
+    name = os.path.normpath(name)
     return path == name or path.endswith("/" + name)

@@ -16,10 +16,12 @@ LONGEST = 200               # entries of a list at most
 
 
 def put_answer(word: str, **fields: Any) -> None:
-    streams.put(json.dumps({"answer": word, "version": VERSION, "zelkuma": version(), **fields}) + "\n")
+    streams.put(json.dumps({"answer": word, "version": VERSION, "zelkuma": version(), **fields})
+                + "\n")
 
 
-def put_found(word: str, found: T, lines: Callable[[T], Iterable[str]], answer: Callable[[T], Mapping[str, Any]], is_json: bool) -> None:
+def put_found(word: str, found: T, lines: Callable[[T], Iterable[str]],
+              answer: Callable[[T], Mapping[str, Any]], is_json: bool) -> None:
     """What a word found, as text or for other programs."""
     if is_json:
         put_answer(word, **answer(found))
@@ -30,4 +32,5 @@ def put_found(word: str, found: T, lines: Callable[[T], Iterable[str]], answer: 
 def place_of(places: Places, pc: int) -> dict[str, Any]:
     """A place of code; `line` is 0 and `file` empty if no tool tells them."""
     frame = places.innermost(pc)
-    return {"address": f"{pc:08x}", "function": frame.function, "file": frame.file, "line": frame.line}
+    return {"address": f"{pc:08x}", "function": frame.function,
+            "file": frame.file, "line": frame.line}

@@ -7,14 +7,18 @@ from ..call import program
 from ..call.errors import CompanionError
 from ..call.files import check_regular
 
-DIFFERS, NO_WHOLE_RUN = 16, 17          # statuses of audit
+# Statuses of audit
+DIFFERS = 16
+NO_WHOLE_RUN = 17
 PART = 1 << 20              # bytes
 
 
 def read_book(name: str, most: int) -> tuple[int, bytes]:
     """How many switches between harts it has; and its turns, if these are no more than so many."""
     check_regular(name)
-    switches, kept, last = 0, [], b""
+    switches = 0
+    kept = []
+    last = b""
     with open(name, "rb") as file:
         for part in iter(lambda: file.read(PART), b""):
             switches += switches_in(last + part)
@@ -36,9 +40,9 @@ def check_book(log: str, elf: str, book: str, source: Sequence[str]) -> None:
         program.output("audit", log, elf, book, options=source)
     except CompanionError as error:
         if error.status == DIFFERS:
-            raise CompanionError(f"LOG isn't the recording of BOOK's turns ({error}): BOOK is of another run, or the input "
-                                 f"isn't that of the recording", DIFFERS)
+            raise CompanionError(f"LOG isn't the recording of BOOK's turns ({error}): BOOK is of "
+                                 "another run, or the input isn't that of the recording", DIFFERS)
         if error.status == NO_WHOLE_RUN:
-            raise CompanionError(f"BOOK is no list of turns of a whole run of ELF ({error}), or the input isn't that of the recording",
-                                 NO_WHOLE_RUN)
+            raise CompanionError(f"BOOK is no list of turns of a whole run of ELF ({error}), "
+                                 "or the input isn't that of the recording", NO_WHOLE_RUN)
         raise

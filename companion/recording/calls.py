@@ -1,8 +1,9 @@
 """Call stacks, rebuilt from the calls and returns along a hart's rows.
 
-Calls are a tree, which all harts share: a node is the place of a call made in another node; node 0 is the outermost.
-A return goes to the nearest node whose call it returns behind; one that fits none changes nothing, and so do longjmp
-and hand-made returns. A jump to the first address of a function is a call too, which returns for the function that made it."""
+Calls are a tree, which all harts share: a node is the place of a call made in another node; node 0
+is the outermost. A return goes to the nearest node whose call it returns behind; one that fits none
+changes nothing, and so do longjmp and hand-made returns. A jump to the first address of a function
+is a call too, which returns for the function that made it."""
 from __future__ import annotations
 
 import bisect
@@ -14,17 +15,20 @@ from typing import Mapping, NamedTuple, Optional
 from .elf import FUNCTION, Elf
 from .rows import Rows
 
-RESTORES, COLD = "__riscv_restore_", ".cold"
+RESTORES = "__riscv_restore_"
+COLD = ".cold"
 MASK = (1 << 32) - 1
 
 
 class Entries:
     """The first addresses of functions: to jump there from another function is a call.
 
-    sizes   {address: the size of the function, 0 if it has none: then it ends with the next one's begin}"""
+    sizes   {address: the size of the function, 0 if it has none: then it ends with the next one's
+            begin}"""
 
     def __init__(self, sizes: Mapping[int, int] = MappingProxyType({})) -> None:
-        self.sizes, self.order = sizes, sorted(sizes)
+        self.sizes = sizes
+        self.order = sorted(sizes)
 
     def are_led_to(self, pc: int, target: int) -> bool:
         """Whether a jump leads to a function. One to the first row of its own is a loop."""
@@ -35,9 +39,10 @@ class Entries:
 
 
 def entries_of(elf: Elf) -> Entries:
-    """Those of a program. What takes registers back for a function that ends is a part of it, and so is the code that a compiler
-    put elsewhere since it is seldom done."""
-    return Entries({symbol.address: symbol.size for symbol in elf.functions if symbol.kind == FUNCTION
+    """Those of a program. What takes registers back for a function that ends is a part of it, and
+    so is the code that a compiler put elsewhere since it is seldom done."""
+    return Entries({symbol.address: symbol.size
+                    for symbol in elf.functions if symbol.kind == FUNCTION
                     and not symbol.name.startswith(RESTORES) and not symbol.name.endswith(COLD)})
 
 
@@ -71,7 +76,8 @@ class CallTree:
         return found
 
     def went(self, node: int, pc: int) -> int:
-        """The node of a jump to a function. Of several in a row the last is kept, so that the tree stays small."""
+        """The node of a jump to a function. Of several in a row the last is kept, so that the tree
+        stays small."""
         found = self.called(self.parent[node] if node in self.tails else node, pc)
         self.tails.add(found)
         return found
@@ -101,8 +107,8 @@ class Tail(NamedTuple):
 
 
 class Paired(NamedTuple):
-    """Calls and the returns from them, as places among the jumps, in the order of the returns. `left` has {hart: its calls
-    that didn't return, outermost first}."""
+    """Calls and the returns from them, as places among the jumps, in the order of the returns.
+    `left` has {hart: its calls that didn't return, outermost first}."""
     calls: array[int]
     backs: array[int]
     left: dict[int, list[int]]
@@ -112,20 +118,28 @@ class Calls:
     """How harts were called.
 
     tree     the calls
-    jumps    the rows of calls and returns; a0: what it was there, an argument or a result; writers: the rows that wrote it
+    jumps    the rows of calls and returns; a0: what it was there, an argument or a result; writers:
+             the rows that wrote it
     tails    the jumps to functions
     goes     {hart: the rows of its jumps}; nodes: {hart: its nodes after them}"""
 
     def __init__(self, rows: Rows, entries: Optional[Entries] = None) -> None:
-        self.rows, self.tree, self.entries = rows, CallTree(), entries or Entries()
-        self.jumps, self.a0, self.writers = array("I"), array("I"), array("I")
+        self.rows = rows
+        self.tree = CallTree()
+        self.entries = entries or Entries()
+        self.jumps = array("I")
+        self.a0 = array("I")
+        self.writers = array("I")
         self.tails: list[Tail] = []
         self.goes = {hart: array("I") for hart in range(rows.log.harts)}
         self.nodes = {hart: array("I", [0]) for hart in range(rows.log.harts)}
 
     def go(self, n: int, writer: int, a0: int, target: int) -> None:
-        """A call, a return, or a jump that can lead to a function. `writer` is the row that wrote a0, `target` what its register held."""
-        ins, hart, tree = self.rows.code_of(n), self.rows.hart[n], self.tree
+        """A call, a return, or a jump that can lead to a function. `writer` is the row that wrote
+        a0, `target` what its register held."""
+        ins = self.rows.code_of(n)
+        hart = self.rows.hart[n]
+        tree = self.tree
         node = self.nodes[hart][-1]
         if not ins.leads:
             target = target + (ins.word >> 20) - (ins.word >> 31 << 12) & MASK & ~1
@@ -153,9 +167,10 @@ class Calls:
 
     @cached_property
     def paired(self) -> Paired:
-        """Once all rows are read. A return is that from the nearest call behind which it leads; one that fits none is of
-        none, and calls in one that has returned never will."""
-        rows, found = self.rows, Paired(array("I"), array("I"), {hart: [] for hart in self.goes})
+        """Once all rows are read. A return is that from the nearest call behind which it leads; one
+        that fits none is of none, and calls in one that has returned never will."""
+        rows = self.rows
+        found = Paired(array("I"), array("I"), {hart: [] for hart in self.goes})
         for at, n in enumerate(self.jumps):
             left = found.left[rows.hart[n]]
             if rows.code_of(n).call:

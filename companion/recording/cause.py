@@ -1,4 +1,5 @@
-"""How a run ended: the end of one hart, the place, and the calls over it. Only rows of jumps are looked at."""
+"""How a run ended: the end of one hart, the place, and the calls over it. Only rows of jumps are
+looked at."""
 from __future__ import annotations
 
 import json
@@ -14,8 +15,10 @@ from .log import End, Log, is_fault
 from .recent import FIRST_ROWS, LogFile
 from .stacks import Chunk, Frame, Stacks, call_places
 
-LOOP_ROWS, MOST_FRAMES = 300, 200
-HANG_ROWS = 20000000        # of all harts, for the calls over a loop: one hart's share takes some seconds
+LOOP_ROWS = 300
+MOST_FRAMES = 200
+# Of all harts, for the calls over a loop: one hart's share takes some seconds
+HANG_ROWS = 20000000
 EXITS = "exit", "group"
 
 
@@ -29,9 +32,10 @@ class Cause(NamedTuple):
     calls: tuple[int, ...]
 
     def functions(self, elf: Elf) -> tuple[str, ...]:
-        """Those that are under way, innermost first, by the file's own symbols. Each counts once, so that a recursion's depth
-        isn't told."""
-        return tuple(dict.fromkeys(elf.function_name(at) or f"{at:08x}" for at in (self.pc,) + self.calls))
+        """Those that are under way, innermost first, by the file's own symbols. Each counts once,
+        so that a recursion's depth isn't told."""
+        return tuple(dict.fromkeys(elf.function_name(at) or f"{at:08x}"
+                                   for at in (self.pc,) + self.calls))
 
     def text(self) -> str:
         return json.dumps(self)
@@ -44,7 +48,8 @@ class Cause(NamedTuple):
 
 def last_rows(texts: Iterable[bytes], hart: int) -> List[Tuple[Frame, int]]:
     """The innermost frame and the address of each of a hart's last rows."""
-    head, rows = b"\n%d " % hart, re.compile(rb"\n%d \d+ (\w{8})[^\n]*" % hart)
+    head = b"\n%d " % hart
+    rows = re.compile(rb"\n%d \d+ (\w{8})[^\n]*" % hart)
     stacks = Stacks(Entries(), 1)
     kept: Deque[Tuple[Chunk, int]] = deque()
     size = 0                                    # rows in `kept`
@@ -57,18 +62,20 @@ def last_rows(texts: Iterable[bytes], hart: int) -> List[Tuple[Frame, int]]:
             size += kept[-1][1]
         while kept and size - kept[0][1] >= LOOP_ROWS:
             size -= kept.popleft()[1]
-    found = [(chunk.top(head[1:-1], row.start() + 1), int(row[1], 16)) for chunk, _ in kept for row in rows.finditer(chunk.text)]
+    found = [(chunk.top(head[1:-1], row.start() + 1), int(row[1], 16)) for chunk, _ in kept
+             for row in rows.finditer(chunk.text)]
     return found[-LOOP_ROWS:]
 
 
 def ended_hart(log: Log) -> int:
-    """The hart that tells how the run ended: the one with the fault, else one at its limit, else one that exited; if
-    possible one that has rows."""
+    """The hart that tells how the run ended: the one with the fault, else one at its limit, else
+    one that exited; if possible one that has rows."""
     have_rows = {one.hart for one in log.intervals if one.end > one.start or is_fault(one.reason)}
 
     def rank(hart: int) -> tuple[bool, bool, bool, bool, int]:
         reason = log.ends[hart].reason
-        return not is_fault(reason), hart not in have_rows, reason != "limit", reason != "group", hart
+        return (not is_fault(reason), hart not in have_rows, reason != "limit",
+                reason != "group", hart)
 
     if not log.ends:
         raise CompanionError("the log holds no interval (see `list`)", NO_INTERVAL)
@@ -95,8 +102,9 @@ def cause_of(log: Log, elf_name: str) -> Cause:
 
 
 def cause_of_file(source: LogFile, elf_name: str) -> Cause:
-    """The cause, by the last million rows. The calls over a loop without end can be from long before: more of its hart's rows
-    are read then, so that a hang has one cause whatever its limit was."""
+    """The cause, by the last million rows. The calls over a loop without end can be from long
+    before: more of its hart's rows are read then, so that a hang has one cause whatever its limit
+    was."""
     log = source.end(FIRST_ROWS)
     hart = ended_hart(log)
     end = log.ends[hart]

@@ -1,18 +1,22 @@
-"""The parts of a row's text, `HART COUNT ADDRESS WORD INSTRUCTION | WHAT IT DID ..`, which modules outside of recording/ cut here alone.
+"""The parts of a row's text, `HART COUNT ADDRESS WORD INSTRUCTION | WHAT IT DID ..`, which modules
+outside of recording/ cut here alone.
 
 A place in a text is anywhere in a row, or at the newline before it."""
 from __future__ import annotations
 
 from typing import NamedTuple
 
-WORD, OPERATION = 9, 18     # letters of a key before the word, and before the instruction's text
+# Letters of a key before the word, and before the instruction's text
+WORD = 9
+OPERATION = 18
 PC = slice(0, 8)            # of a key
 LONGEST_HEAD = 40           # letters of a hart and a count
 
 
 class Cut(NamedTuple):
-    """A row, taken apart: the hart as its digits, the count, the key (address, word and instruction), and what it did: `REGISTER=VALUE`,
-    `load ADDRESS=VALUE`, `store ADDRESS=VALUE` or `fault NAME VALUE`."""
+    """A row, taken apart: the hart as its digits, the count, the key (address, word and
+    instruction), and what it did: `REGISTER=VALUE`, `load ADDRESS=VALUE`, `store ADDRESS=VALUE` or
+    `fault NAME VALUE`."""
     hart: bytes
     ic: int
     key: bytes

@@ -1,7 +1,9 @@
-"""The entries of an ELF file's debug information (DWARF 4 and 5): functions, variables and types, as GCC and LLVM write them.
+"""The entries of an ELF file's debug information (DWARF 4 and 5): functions, variables and types,
+as GCC and LLVM write them.
 
-Any bytes can be given: a unit that makes no sense is left out, so many entries are kept at most, and no chain is followed
-without an end. gdb tells the same of a program, but can't be asked of each access."""
+Any bytes can be given: a unit that makes no sense is left out, so many entries are kept at most,
+and no chain is followed without an end. gdb tells the same of a program, but can't be asked of each
+access."""
 from __future__ import annotations
 
 import functools
@@ -10,23 +12,62 @@ from typing import Dict, List, NamedTuple, Optional, Tuple, Union
 
 from .elf import Elf
 
-ARRAY, CLASS, ENUM, PARAMETER, BLOCK, MEMBER, POINTER, UNIT, STRUCT = 1, 2, 4, 5, 0xb, 0xd, 0xf, 0x11, 0x13
-ROUTINE, UNION, INLINED, SUBRANGE, BASE, FUNCTION, VARIABLE = 0x15, 0x17, 0x1d, 0x21, 0x24, 0x2e, 0x34
-LOCATION, NAME, BYTE_SIZE, LOW, HIGH, COMP_DIR, UPPER, ORIGIN = 2, 3, 0xb, 0x11, 0x12, 0x1b, 0x2f, 0x31
-COUNT, OFFSET, FRAME_BASE, SPECIFICATION, TYPE, BITS, PRODUCER = 0x37, 0x38, 0x40, 0x47, 0x49, 0x0d, 0x25
-KEPT = {LOCATION, NAME, BYTE_SIZE, LOW, HIGH, COMP_DIR, UPPER, ORIGIN, COUNT, OFFSET, FRAME_BASE, SPECIFICATION, TYPE, BITS}
+ARRAY = 1
+CLASS = 2
+ENUM = 4
+PARAMETER = 5
+BLOCK = 0xb
+MEMBER = 0xd
+POINTER = 0xf
+UNIT = 0x11
+STRUCT = 0x13
+ROUTINE = 0x15
+UNION = 0x17
+INLINED = 0x1d
+SUBRANGE = 0x21
+BASE = 0x24
+FUNCTION = 0x2e
+VARIABLE = 0x34
+LOCATION = 2
+NAME = 3
+BYTE_SIZE = 0xb
+LOW = 0x11
+HIGH = 0x12
+COMP_DIR = 0x1b
+UPPER = 0x2f
+ORIGIN = 0x31
+COUNT = 0x37
+OFFSET = 0x38
+FRAME_BASE = 0x40
+SPECIFICATION = 0x47
+TYPE = 0x49
+BITS = 0x0d
+PRODUCER = 0x25
+KEPT = {LOCATION, NAME, BYTE_SIZE, LOW, HIGH, COMP_DIR, UPPER, ORIGIN, COUNT, OFFSET,
+        FRAME_BASE, SPECIFICATION, TYPE, BITS}
 # The bytes of each form of a fixed size.
-FIXED = {0x01: 4, 0x05: 2, 0x06: 4, 0x07: 8, 0x0b: 1, 0x0c: 1, 0x0e: 4, 0x10: 4, 0x11: 1, 0x12: 2, 0x13: 4, 0x14: 8, 0x17: 4,
-         0x19: 0, 0x1e: 16, 0x1f: 4, 0x20: 8, 0x21: 0, 0x25: 1, 0x26: 2, 0x28: 4, 0x29: 1, 0x2a: 2, 0x2b: 3, 0x2c: 4}
-REFERENCES, FLAG, IMPLICIT = (0x11, 0x12, 0x13, 0x14), 0x19, 0x21
-SIGNED, UNSIGNED, UNSIGNED_REFERENCE, TEXT, BLOCKS = 0x0d, (0x0f, 0x1a, 0x1b, 0x22, 0x23), 0x15, 0x08, (0x09, 0x18)
+FIXED = {0x01: 4, 0x05: 2, 0x06: 4, 0x07: 8, 0x0b: 1, 0x0c: 1, 0x0e: 4, 0x10: 4, 0x11: 1, 0x12: 2,
+         0x13: 4, 0x14: 8, 0x17: 4, 0x19: 0, 0x1e: 16, 0x1f: 4, 0x20: 8, 0x21: 0, 0x25: 1, 0x26: 2,
+         0x28: 4, 0x29: 1, 0x2a: 2, 0x2b: 3, 0x2c: 4}
+REFERENCES = (0x11, 0x12, 0x13, 0x14)
+FLAG = 0x19
+IMPLICIT = 0x21
+SIGNED = 0x0d
+UNSIGNED = (0x0f, 0x1a, 0x1b, 0x22, 0x23)
+UNSIGNED_REFERENCE = 0x15
+TEXT = 0x08
+BLOCKS = (0x09, 0x18)
 COUNTED = {0x0a: 1, 0x03: 2, 0x04: 4}           # blocks behind their length in so many bytes
 STRINGS = {0x0e: ".debug_str", 0x1f: ".debug_line_str"}
 LONG = 0xfffffff0           # lengths from here on are those of 64-bit DWARF
 MOST_ENTRIES = 400000       # some 200 MB of Python's memory; sqlite3 has 30,000
-MOST_SECTIONS, LONGEST_NAME, LONGEST_NUMBER, LONGEST_CHAIN = 1000, 200, 10, 4
+MOST_SECTIONS = 1000
+LONGEST_NAME = 200
+LONGEST_NUMBER = 10
+LONGEST_CHAIN = 4
 Told = Union[int, str, bytes]
-Abbreviation = Tuple[int, bool, List[Tuple[int, int, int]]]      # a tag, whether it has entries below, (name, form, value)
+# A tag, whether it has entries below, (name, form, value)
+Abbreviation = Tuple[int, bool, List[Tuple[int, int, int]]]
 
 
 class Unit(NamedTuple):
@@ -41,7 +82,10 @@ class Entry:
     __slots__ = "at", "tag", "told", "below", "unit"
 
     def __init__(self, at: int, tag: int, told: dict[int, Told], unit: Unit) -> None:
-        self.at, self.tag, self.told, self.unit = at, tag, told, unit
+        self.at = at
+        self.tag = tag
+        self.told = told
+        self.unit = unit
         self.below: list[Entry] = []
 
     def number(self, name: int) -> Optional[int]:
@@ -64,7 +108,8 @@ class Dwarf:
         self.tables: Dict[int, dict[int, Abbreviation]] = {}
         self.left_out = 0
         self.parts = sections_of(elf.data)
-        info, at = self.parts.get(".debug_info", b""), 0
+        info = self.parts.get(".debug_info", b"")
+        at = 0
         while at + 11 < len(info):
             length, version = struct.unpack_from("<IH", info, at)
             if length >= LONG:
@@ -97,7 +142,8 @@ class Dwarf:
                 if name in KEPT or name == PRODUCER and tag == UNIT:
                     told[name] = value
             if tag == UNIT:
-                unit = Unit(str(told.get(COMP_DIR, "")), str(told.get(NAME, "")), str(told.get(PRODUCER, "")))
+                unit = Unit(str(told.get(COMP_DIR, "")), str(told.get(NAME, "")),
+                            str(told.get(PRODUCER, "")))
             entry = self.entries[place] = Entry(place, tag, told, unit)
             if len(self.entries) > MOST_ENTRIES:
                 raise ValueError(MOST_ENTRIES)
@@ -109,14 +155,16 @@ class Dwarf:
         """The abbreviations of a unit."""
         if at in self.tables:
             return self.tables[at]
-        data, place = self.parts[".debug_abbrev"], at
+        data = self.parts[".debug_abbrev"]
+        place = at
         found: dict[int, Abbreviation] = {}
         while True:
             code, place = unsigned(data, place)
             if not code:
                 break
             tag, place = unsigned(data, place)
-            has_below, place = data[place], place + 1
+            has_below = data[place]
+            place += 1
             names: list[tuple[int, int, int]] = []
             while not names or names[-1][:2] != (0, 0):
                 name, place = unsigned(data, place)
@@ -130,10 +178,12 @@ class Dwarf:
     def value(self, data: bytes, at: int, form: int, constant: int, begin: int) -> tuple[Told, int]:
         """What a form tells at a place of a unit, and the place behind it."""
         if form in STRINGS:
-            text, number = self.parts.get(STRINGS[form], b""), int.from_bytes(data[at:at + 4], "little")
+            text = self.parts.get(STRINGS[form], b"")
+            number = int.from_bytes(data[at:at + 4], "little")
             return text[number:number + LONGEST_NAME].partition(b"\0")[0].decode("latin-1"), at + 4
         if form in FIXED:
-            number = int.from_bytes(data[at:at + FIXED[form]], "little") + (begin if form in REFERENCES else 0)
+            number = int.from_bytes(data[at:at + FIXED[form]],
+                                    "little") + (begin if form in REFERENCES else 0)
             return {FLAG: 1, IMPLICIT: constant}.get(form, number), at + FIXED[form]
         if form == TEXT:
             end = data.index(b"\0", at)
@@ -148,7 +198,8 @@ class Dwarf:
         if form in BLOCKS:
             size, at = unsigned(data, at)
         else:
-            size, at = int.from_bytes(data[at:at + COUNTED[form]], "little"), at + COUNTED[form]
+            size = int.from_bytes(data[at:at + COUNTED[form]], "little")
+            at = at + COUNTED[form]
         return bytes(data[at:at + size]), at + size
 
     def of(self, entry: Entry, name: int) -> Optional[Told]:
@@ -183,12 +234,15 @@ def sections_of(data: bytes) -> dict[str, bytes]:
     try:
         first, = struct.unpack_from("<I", data, 32)
         count, names = struct.unpack_from("<HH", data, 48)
-        heads = [struct.unpack_from("<10I", data, first + 40 * i) for i in range(min(count, MOST_SECTIONS) if first else 0)]
+        heads = [struct.unpack_from("<10I", data, first + 40 * i)
+                 for i in range(min(count, MOST_SECTIONS) if first else 0)]
         texts = heads[names][4]
     except (struct.error, IndexError):
         return {}
-    named = ((data[texts + head[0]:texts + head[0] + LONGEST_NAME].partition(b"\0")[0].decode("latin-1"), head) for head in heads)
-    return {name: data[head[4]:head[4] + head[5]] for name, head in named if name.startswith(".debug_")}
+    named = ((data[texts + head[0]:texts + head[0] + LONGEST_NAME].partition(b"\0")[0].decode(
+                  "latin-1"), head) for head in heads)
+    return {name: data[head[4]:head[4] + head[5]]
+            for name, head in named if name.startswith(".debug_")}
 
 
 def unsigned(data: bytes, at: int) -> tuple[int, int]:

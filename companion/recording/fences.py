@@ -1,7 +1,9 @@
-"""Which plain loads and stores stand beside a `fence`, as GCC writes atomic ones with acquire and release.
+"""Which plain loads and stores stand beside a `fence`, as GCC writes atomic ones with acquire and
+release.
 
-GCC for RV32IMA writes an acquire load as `lw; fence` and a release store as `fence; sw`. The recorder takes
-neither for synchronisation, so both appear in the list of races. Telling them apart is a guess from the code."""
+GCC for RV32IMA writes an acquire load as `lw; fence` and a release store as `fence; sw`. The
+recorder takes neither for synchronisation, so both appear in the list of races. Telling them apart
+is a guess from the code."""
 
 from __future__ import annotations
 
@@ -14,7 +16,9 @@ WordAt = Callable[[int], Optional[int]]         # gives the instruction at an ad
 FENCE = 0x0f            # the opcode
 ARITHMETIC = OP_IMMEDIATE, OP_REGISTER, OP_LUI, OP_AUIPC
 NEAR = 3                # the compiler may put some arithmetic between the access and its fence
-READ, WRITE = 2, 1      # bits of a fence's two sets
+# Bits of a fence's two sets
+READ = 2
+WRITE = 1
 
 
 def is_fenced(word_at: WordAt, pc: int) -> bool:

@@ -11,7 +11,8 @@ from .elf import Elf
 from .log import READ_CALL, Log, SystemCall
 from .memory import Memory
 
-ACCESS = rb"o(?:ad|re) (%s)=(\w{8})"         # of a load and a store: few rows have the letter o elsewhere
+# Of a load and a store: few rows have the letter o elsewhere
+ACCESS = rb"o(?:ad|re) (%s)=(\w{8})"
 EVERYWHERE = ((0, TOP),)
 NONE = rb"(?!)"
 
@@ -24,14 +25,16 @@ class Fills:
     def __init__(self, log: Log, first: int, end: int) -> None:
         self.left: dict[int, Deque[SystemCall]] = {}
         for call in log.system_calls():
-            if call.kind == READ_CALL and call.size and call.address < end and first < call.address + call.size:
+            if (call.kind == READ_CALL and call.size and call.address < end
+                    and first < call.address + call.size):
                 self.left.setdefault(call.hart, deque()).append(call)
 
     def within(self, text: bytes) -> list[tuple[int, SystemCall]]:
         """Those whose rows are in the next chunk, with the places behind their rows' beginnings."""
         found = []
         for hart, fills in self.left.items():
-            count, at = last_count(text, hart), 0
+            count = last_count(text, hart)
+            at = 0
             while fills and fills[0].count <= count:
                 fill = fills.popleft()
                 at = text.find(b"\n%d %d " % (hart, fill.count), at)
@@ -60,19 +63,24 @@ class FollowedMemory:
     """memory   what the rows up to a place of the latest chunk tell
     coming   the `read` calls of the rest of it, with the places behind their rows' beginnings"""
 
-    def __init__(self, log: Log, elf: Elf, is_whole: bool, ranges: Sequence[tuple[int, int]] = EVERYWHERE) -> None:
-        """`is_whole`: the run's first row is among those that come. Of other words than those in the ranges
-        nothing is told."""
+    def __init__(self, log: Log, elf: Elf, is_whole: bool,
+                 ranges: Sequence[tuple[int, int]] = EVERYWHERE) -> None:
+        """`is_whole`: the run's first row is among those that come. Of other words than those in
+        the ranges nothing is told."""
         self.memory = Memory(elf, is_whole)
         self.ranges = ranges
-        self.fills = Fills(log, min(ranges)[0], max(end for _, end in ranges)) if ranges else Fills(log, 0, 0)
+        self.fills = (Fills(log, min(ranges)[0], max(end for _, end in ranges)) if ranges
+                      else Fills(log, 0, 0))
         self.accesses = re.compile(ACCESS % (words_in(ranges) or NONE))
-        self.text, self.place = b"", 0
+        self.text = b""
+        self.place = 0
         self.coming: Deque[tuple[int, SystemCall]] = deque()
 
     def take(self, text: bytes) -> None:
         self.go_to(len(self.text))
-        self.text, self.place, self.coming = text, 0, deque(self.fills.within(text))
+        self.text = text
+        self.place = 0
+        self.coming = deque(self.fills.within(text))
 
     def go_to(self, place: int) -> None:
         """Takes the rows of the chunk up to a place, which is none before the last one's."""
@@ -80,7 +88,8 @@ class FollowedMemory:
             at, fill = self.coming.popleft()
             self.tell(at)
             for low, high in self.ranges:
-                first, end = max(fill.address, low), min(fill.address + fill.size, high)
+                first = max(fill.address, low)
+                end = min(fill.address + fill.size, high)
                 self.memory.fill(first, max(0, end - first))
         self.tell(place)
 
@@ -90,7 +99,8 @@ class FollowedMemory:
         latest: dict[int, bytes] = {}           # {word: the address by which it was accessed}
         for address in last:
             word = int(address, 16) & ~3
-            if word not in latest or self.last_of(latest[word], place) < self.last_of(address, place):
+            if (word not in latest
+                    or self.last_of(latest[word], place) < self.last_of(address, place)):
                 latest[word] = address
         self.memory.known.update({word: int(last[address], 16) for word, address in latest.items()})
         if self.memory.filled:

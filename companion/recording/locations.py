@@ -6,8 +6,14 @@ from typing import Iterator, NamedTuple
 
 from .dwarf import LOCATION, Dwarf, Entry, unsigned
 
-REGISTER, REGISTERS = 0x50, 32                  # DWARF's operation for the first register; how many there are
-END, OFFSETS, BASE, BETWEEN, LENGTH, VIEWS = 0, 4, 6, 7, 8, 9
+REGISTER = 0x50  # DWARF's operation for the first register
+REGISTERS = 32  # how many there are
+END = 0
+OFFSETS = 4
+BASE = 6
+BETWEEN = 7
+LENGTH = 8
+VIEWS = 9
 LONGEST_LIST = 1000
 
 
@@ -30,10 +36,12 @@ def locations(dwarf: Dwarf, entry: Entry) -> Iterator[Location]:
 def listed(data: bytes, at: int) -> Iterator[Location]:
     base = -1
     for _ in range(LONGEST_LIST):
-        kind, at = data[at], at + 1
+        kind = data[at]
+        at += 1
         low = high = 0
         if kind == BASE:
-            base, at = struct.unpack_from("<I", data, at)[0], at + 4
+            base = struct.unpack_from("<I", data, at)[0]
+            at += 4
             continue
         if kind in (OFFSETS, VIEWS):
             low, at = unsigned(data, at)
@@ -43,7 +51,8 @@ def listed(data: bytes, at: int) -> Iterator[Location]:
             low, high = struct.unpack_from("<II", data, at)
             at += 8
         elif kind == LENGTH:
-            low, at = struct.unpack_from("<I", data, at)[0], at + 4
+            low = struct.unpack_from("<I", data, at)[0]
+            at += 4
             high, at = unsigned(data, at)
             high += low
         else:                                   # the end, or what can't be read

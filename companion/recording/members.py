@@ -1,4 +1,5 @@
-"""The names of places in data: the object that holds an address, and the member or element of it."""
+"""The names of places in data: the object that holds an address, and the member or element of
+it."""
 from __future__ import annotations
 
 from functools import cached_property
@@ -13,7 +14,8 @@ DEEPEST = 24                # members and elements in others
 
 
 class Members:
-    """Names by the debug information, which is read once a name is asked for; without it an object and an offset."""
+    """Names by the debug information, which is read once a name is asked for; without it an object
+    and an offset."""
 
     def __init__(self, elf: Elf) -> None:
         self.elf = elf
@@ -33,7 +35,8 @@ class Members:
         return found
 
     def name(self, address: int) -> str:
-        """The object that holds an address with its member and element, as far as they are known, and the offset; or nothing."""
+        """The object that holds an address with its member and element, as far as they are known,
+        and the offset; or nothing."""
         held = self.elf.object_at(address)
         if held is None:
             return ""
@@ -51,19 +54,23 @@ class Members:
                 said += indices(found, offset // size)
                 offset %= size
                 continue
-            member = self.types.member_at(kind, offset) if found is not None and found.tag in (STRUCT, CLASS) else None
+            member = (self.types.member_at(kind, offset)
+                      if found is not None and found.tag in (STRUCT, CLASS) else None)
             if member is None:                  # a plain value, a union, a field of bits or nothing
                 break
             said += f".{member[2]}" if member[2] else ""
-            offset, kind = offset - member[0], member[1]
+            offset = offset - member[0]
+            kind = member[1]
         return said + (f"+{offset}" if offset else "")
 
 
 def indices(array: Entry, place: int) -> str:
     """The indices of an array's element. How many the outermost dimension has needn't be known."""
-    said, bounds = "", [each for each in array.below if each.tag == SUBRANGE]
+    said = ""
+    bounds = [each for each in array.below if each.tag == SUBRANGE]
     for bound in bounds[:0:-1]:
-        count = max(1, bound.number(COUNT) or (bound.number(UPPER) or 0) + 1)     # (a forged file can say less)
+        # (a forged file can say less)
+        count = max(1, bound.number(COUNT) or (bound.number(UPPER) or 0) + 1)
         said = f"[{place % count}]" + said
         place //= count
     return f"[{place}]" + said

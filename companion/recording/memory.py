@@ -15,12 +15,14 @@ class Memory:
     is_whole whether all else is as the file has it: no row is lost"""
 
     def __init__(self, elf: Elf, is_whole: bool) -> None:
-        self.elf, self.is_whole = elf, is_whole
+        self.elf = elf
+        self.is_whole = is_whole
         self.known: dict[int, int] = {}
         self.filled: set[int] = set()
 
     def tells(self, told: bytes) -> None:
-        """What a row says: `load ADDRESS=VALUE` or `store ADDRESS=VALUE`, the value being the whole word's."""
+        """What a row says: `load ADDRESS=VALUE` or `store ADDRESS=VALUE`, the value being the whole
+        word's."""
         _, _, said = told.partition(b" ")
         self.known[int(said[:8], 16) & ~3] = int(said[9:], 16)
 
@@ -33,7 +35,8 @@ class Memory:
     def word(self, address: int) -> Optional[int]:
         """A word's value, or None if nothing tells it."""
         found = self.known.get(address)
-        if found is None and address not in self.filled and (self.is_whole or self.elf.is_read_only(address)):
+        if found is None and address not in self.filled and (self.is_whole
+                                                             or self.elf.is_read_only(address)):
             return self.elf.word(address) or 0
         return found
 
@@ -49,13 +52,15 @@ def words_of(address: int, size: int) -> range:
 
 def bytes_of(words: Iterable[Optional[int]]) -> list[Optional[int]]:
     """The bytes of some words' values; None for each of one that isn't known."""
-    return [byte for word in words for byte in ([None] * 4 if word is None else word.to_bytes(4, "little"))]
+    return [byte for word in words
+            for byte in ([None] * 4 if word is None else word.to_bytes(4, "little"))]
 
 
 def quoted(data: Bytes) -> str:
     """Bytes as texts in quotes, and how many between them aren't known."""
     said: list[str] = []
-    at, end = 0, min(len(data), MOST_BYTES)
+    at = 0
+    end = min(len(data), MOST_BYTES)
     while at < end:
         begin = at
         while at < end and (data[at] is None) == (data[begin] is None):

@@ -1,4 +1,5 @@
-"""The names of a program: a file of the same program that has them, and the tool that tells its lines."""
+"""The names of a program: a file of the same program that has them, and the tool that tells its
+lines."""
 from __future__ import annotations
 
 from typing import Sequence
@@ -10,7 +11,8 @@ from .elf import Elf
 from .places import PACKAGE, Places
 
 NO_TOOL = f"no addr2line is here, so functions come without lines; Debian has it in {PACKAGE}"
-NO_NAMES = "has no names, since it was stripped: record the file from before `strip`, or give that to --names"
+NO_NAMES = ("has no names, since it was stripped: record the file from before `strip`, "
+            "or give that to --names")
 NO_LINES = "has no lines: build it with -g, or give --names a copy that has them"
 
 
@@ -21,8 +23,8 @@ def named_elf(elf: Elf, name: str) -> Elf:
     named = Elf(name)
     differs = named.difference(elf)
     if differs:
-        raise CompanionError(f"--names: {name} is another build than {elf.name}, so its names would be wrong: {differs}",
-                             OTHER_PROGRAM)
+        raise CompanionError(f"--names: {name} is another build than {elf.name}, "
+                             f"so its names would be wrong: {differs}", OTHER_PROGRAM)
     return named
 
 
@@ -34,7 +36,8 @@ def lack_of(named: Elf, places: Places) -> str:
 
 
 def places_of(named: Elf, folders: Sequence[str] = ()) -> Places:
-    """The places of a program, and its sources in these folders. What it lacks for lines is said at once."""
+    """The places of a program, and its sources in these folders. What it lacks for lines is said at
+    once."""
     found = Places(named, folders=folders)
     lack = lack_of(named, found)
     if lack:

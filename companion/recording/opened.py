@@ -23,9 +23,13 @@ NOTHING: Mapping[str, str] = MappingProxyType({})
 class Program:
     """elf    the recorded program; named: the same with names, if --names gives them"""
 
-    def __init__(self, elf_name: str, names: str = "", folders: Sequence[str] = (), is_silent: bool = False) -> None:
-        """`folders` are those of --source. Unless it is silent, it says if there is no tool for lines."""
-        self.elf, self.folders, self.is_silent = Elf(elf_name), folders, is_silent
+    def __init__(self, elf_name: str, names: str = "", folders: Sequence[str] = (),
+                 is_silent: bool = False) -> None:
+        """`folders` are those of --source. Unless it is silent, it says if there is no tool for
+        lines."""
+        self.elf = Elf(elf_name)
+        self.folders = folders
+        self.is_silent = is_silent
         self.named = named_elf(self.elf, names)
 
     @property
@@ -37,7 +41,8 @@ class Program:
     @cached_property
     def places(self) -> Places:
         """Its lines, by a tool that runs until `close`."""
-        return Places(self.named, folders=self.folders) if self.is_silent else places_of(self.named, self.folders)
+        return (Places(self.named, folders=self.folders) if self.is_silent
+                else places_of(self.named, self.folders))
 
     def close(self) -> None:
         if "places" in self.__dict__:
@@ -48,9 +53,11 @@ class Opened(Program):
     """source   the log, checked
     rows     what --rows says, or 0"""
 
-    def __init__(self, source: LogFile, elf_name: str, names: str, folders: Sequence[str], rows: int) -> None:
+    def __init__(self, source: LogFile, elf_name: str, names: str,
+                 folders: Sequence[str], rows: int) -> None:
         super().__init__(elf_name, names, folders)
-        self.source, self.rows = source, rows
+        self.source = source
+        self.rows = rows
 
     def log(self, most: int) -> Log:
         """The end of the log that has so many rows, or as many as --rows says."""

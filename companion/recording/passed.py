@@ -1,5 +1,5 @@
-"""The registers of harts behind rows that are passed by: each interval begins with all of them, so only the rows from there on are
-looked at again, of each hart by itself."""
+"""The registers of harts behind rows that are passed by: each interval begins with all of them, so
+only the rows from there on are looked at again, of each hart by itself."""
 from __future__ import annotations
 
 import re
@@ -19,7 +19,8 @@ class Passed:
     """counts   {hart: the count of its first row behind those that were passed}"""
 
     def __init__(self, log: Log, elf_name: str) -> None:
-        self.log, self.elf_name = log, elf_name
+        self.log = log
+        self.elf_name = elf_name
         self.intervals = log.by_hart()
         self.counts = {hart: mine[0].start for hart, mine in self.intervals.items()}
 
@@ -34,7 +35,8 @@ class Passed:
         found = {}
         for hart, mine in self.intervals.items():
             count = self.counts[hart]
-            interval = next((one for one in mine if one.end > count), mine[-1])     # (a fault's row comes behind the last one's end)
+            # (a fault's row comes behind the last one's end)
+            interval = next((one for one in mine if one.end > count), mine[-1])
             values = found[hart] = [0, *interval.registers[1:]]
             for text in self.rows_up_to(interval, count):
                 write(values, text)
@@ -44,7 +46,8 @@ class Passed:
         """The rows of an interval before the one of a count."""
         if interval.start >= count:
             return
-        for text in chunks(self.log.name, self.elf_name, "replay", str(interval.hart), str(interval.number)):
+        for text in chunks(self.log.name, self.elf_name, "replay",
+                           str(interval.hart), str(interval.number)):
             end = text.find(b"\n%d %d " % (interval.hart, count))
             yield text if end < 0 else text[:end]
             if end >= 0:
@@ -52,7 +55,8 @@ class Passed:
 
 
 def write(values: list[int], text: bytes) -> None:
-    """What some rows put into registers. The last rows tell most of it; only the rest is looked for in the others."""
+    """What some rows put into registers. The last rows tell most of it; only the rest is looked for
+    in the others."""
     last = dict(RESULT.findall(text, max(0, len(text) - LAST)))
     others = b"|".join(NUMBERS.keys() - last.keys())
     for name, value in [*re.findall(rb"\| (%s)=(\w{8})" % others, text), *last.items()]:

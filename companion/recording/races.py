@@ -1,7 +1,8 @@
 """The races of a log as the program lists them, in groups: by the two places and the word.
 
-A group is judged in two ways, which are guesses from the code and no more. It is *fenced* if both accesses stand beside
-a fence. It is *ordered by fences* if each of its pairs lies after a fenced store and before a fenced load of its word."""
+A group is judged in two ways, which are guesses from the code and no more. It is *fenced* if both
+accesses stand beside a fence. It is *ordered by fences* if each of its pairs lies after a fenced
+store and before a fenced load of its word."""
 from __future__ import annotations
 
 import bisect
@@ -20,7 +21,8 @@ from .places import Places
 
 TOO_MANY = 20                       # the program's status if there are more than it was asked for
 STEPS = (2000, 20000, 200000, 1000000)
-FENCED, ORDERED = "fenced", "ordered by fences"
+FENCED = "fenced"
+ORDERED = "ordered by fences"
 FIRST_PAIRS = 8                     # so many pairs of each group are kept with their rows
 
 
@@ -30,7 +32,10 @@ class RacingAccess:
 
     def __init__(self, row: str) -> None:
         words = row.split(" ", 3)
-        self.hart, self.count, self.pc, self.row = int(words[0]), int(words[1]), int(words[2], 16), row
+        self.hart = int(words[0])
+        self.count = int(words[1])
+        self.pc = int(words[2], 16)
+        self.row = row
 
     @property
     def stores(self) -> bool:
@@ -50,19 +55,20 @@ class RacingAccess:
         return At(self.hart, self.count)
 
 
-AccessPair = Tuple[RacingAccess, RacingAccess]          # of a race, in the order of the joint replay
+# Of a race, in the order of the joint replay
+AccessPair = Tuple[RacingAccess, RacingAccess]
 
 
 class Way(NamedTuple):
-    """Of two harts the counts of fenced stores of one, ascending; and of each the least count at which the other hart
-    loads the word behind it or behind a later one."""
+    """Of two harts the counts of fenced stores of one, ascending; and of each the least count at
+    which the other hart loads the word behind it or behind a later one."""
     counts: list[int]
     least: list[int]
 
 
 class Columns(NamedTuple):
-    """An entry for each pair: the two accesses, the group's number, and whether a fenced store comes first and a fenced
-    load second."""
+    """An entry for each pair: the two accesses, the group's number, and whether a fenced store
+    comes first and a fenced load second."""
     harts: array[int]
     counts: array[int]
     other_harts: array[int]
@@ -78,8 +84,12 @@ class Group:
     pairs    how many; first: some of them"""
 
     def __init__(self, number: int, word: int, places: list[str], fenced: bool) -> None:
-        self.number, self.word, self.places, self.fenced = number, word, places, fenced
-        self.pairs, self.ordered = 0, False
+        self.number = number
+        self.word = word
+        self.places = places
+        self.fenced = fenced
+        self.pairs = 0
+        self.ordered = False
         self.first: list[AccessPair] = []
 
     @property
@@ -93,17 +103,20 @@ class Races:
     over     whether there are more than were asked for: then there are no groups"""
 
     def __init__(self, named: Elf, places: Places) -> None:
-        self.named, self.places, self.members = named, places, Members(named)
+        self.named = named
+        self.places = places
+        self.members = Members(named)
         self.by_key: dict[tuple[int, str, str, bool], Group] = {}
         self.place_of = lru_cache(maxsize=None)(places.where)
         self.is_fenced = lru_cache(maxsize=None)(partial(fences.is_fenced, named.word))
         self.pairs = Columns(array("B"), array("Q"), array("B"), array("Q"), array("I"), array("B"))
-        self.total, self.over = 0, False
+        self.total = 0
+        self.over = False
         self.groups: list[Group] = []
 
     def read(self, harts: int, log_name: str, elf_name: str, most: int) -> Races:
-        """Asks for at most so many pairs, and first for fewer, since a longer list takes the program longer. One hart alone has
-        none."""
+        """Asks for at most so many pairs, and first for fewer, since a longer list takes the
+        program longer. One hart alone has none."""
         if harts == 1:
             check_program(log_name, elf_name)
             return self
@@ -124,7 +137,8 @@ class Races:
             for line in lines:
                 text = line[:-1].decode("ascii", "replace")
                 if text.startswith("race "):
-                    head, rows = text.split(" "), []
+                    head = text.split(" ")
+                    rows = []
                 elif head:
                     rows.append(text)
                     if len(rows) == 2:
@@ -143,14 +157,16 @@ class Races:
         if len(group.first) < FIRST_PAIRS:
             group.first.append((one, other))
         hands_over = fenced and one.stores and other.loads
-        for column, value in zip(self.pairs, (one.hart, one.count, other.hart, other.count, group.number, hands_over)):
+        for column, value in zip(self.pairs, (one.hart, one.count, other.hart,
+                                              other.count, group.number, hands_over)):
             column.append(value)
         self.total += 1
 
     def unordered(self) -> set[frozenset[At]]:
         """The pairs that no fences order either."""
         return {frozenset((At(hart, count), At(other, other_count)))
-                for hart, count, other, other_count, number, _ in zip(*self.pairs) if not self.groups[number].kind}
+                for hart, count, other, other_count, number, _ in zip(*self.pairs)
+                if not self.groups[number].kind}
 
     def find_ordered(self) -> None:
         """Sets `ordered` of each group that fences may order."""
@@ -179,7 +195,8 @@ class Races:
 
 
 def leads(way: Optional[Way], count: int, other_count: int) -> bool:
-    """Whether a fenced store at `count` or later is loaded by the other hart at `other_count` or before."""
+    """Whether a fenced store at `count` or later is loaded by the other hart at `other_count` or
+    before."""
     if not way:
         return False
     at = bisect.bisect_left(way.counts, count)

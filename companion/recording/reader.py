@@ -1,5 +1,5 @@
-"""Fills the columns of rows, writers and calls from chunks of text: most at once for all rows of a chunk, and row by row
-only what depends on the rows before."""
+"""Fills the columns of rows, writers and calls from chunks of text: most at once for all rows of a
+chunk, and row by row only what depends on the rows before."""
 from __future__ import annotations
 
 import re
@@ -17,14 +17,18 @@ from .log import FAILED, LONGEST_CALL, READ_CALL
 from .rows import CHANGED, FAULTS, KEEPS, LOADS, OFFSET, STORES, UNSTORED, Fault, ReadCall, Rows
 from .writers import Writers
 
-# What a row does beside LOADS and STORES: it writes a register; it is a call, a return or a jump to a function; it is a
-# system call; it stores only if it succeeds.
-WRITES, GOES, ASKS, TRIES = 1, 2, 16, 32
+# What a row does beside LOADS and STORES: it writes a register; it is a call, a return or a jump to
+# a function; it is a system call; it stores only if it succeeds.
+WRITES = 1
+GOES = 2
+ASKS = 16
+TRIES = 32
 NO_REGISTER = 32            # in place of the register of what writes none
 WORD = ~OFFSET
 SPECIAL = re.compile(rb"[\x10-\x3f]")
 FAULT = b" | fault "
-KEY, ZERO = 17, b"0" * 8    # letters of an address and a word; the value of what writes no register
+KEY = 17  # letters of an address and a word
+ZERO = b"0" * 8  # the value of what writes no register
 NOTHING = 0, -1             # in place of the row that stored a word last, and its value
 
 
@@ -33,7 +37,9 @@ def of_shapes(bits: int) -> bytes:
     return bytes(shape & bits for shape in range(256))
 
 
-WENT, ACCESSED, TOUCHED = of_shapes(GOES), of_shapes(LOADS | STORES), of_shapes(LOADS | STORES | TRIES)
+WENT = of_shapes(GOES)
+ACCESSED = of_shapes(LOADS | STORES)
+TOUCHED = of_shapes(LOADS | STORES | TRIES)
 NO_ACCESS = bytes(shape for shape in range(256) if not ACCESSED[shape])
 BOTH = LOADS | STORES
 # A row tells its value so many letters before its end, which is the same for all rows of a shape.
@@ -43,18 +49,20 @@ RESULTS = [slice(-8 - behind, -behind or None) if shape & WRITES else None
 
 
 class State:
-    """What is known of a hart while its rows are read: of each register the row that wrote it, and what it held before the
-    first row; the count of its next row."""
+    """What is known of a hart while its rows are read: of each register the row that wrote it, and
+    what it held before the first row; the count of its next row."""
     __slots__ = ("number", "writers", "values", "count")
 
     def __init__(self, number: int, registers: Sequence[int]) -> None:
-        self.number, self.count = number, -1
-        self.writers, self.values = [0] * 33, [0, *registers[1:]]
+        self.number = number
+        self.count = -1
+        self.writers = [0] * 33
+        self.values = [0, *registers[1:]]
 
 
 class Turn(NamedTuple):
-    """Rows of a hart that follow each other in a chunk, as places in it; the count of the first; the letters before their
-    addresses."""
+    """Rows of a hart that follow each other in a chunk, as places in it; the count of the first;
+    the letters before their addresses."""
     hart: State
     begin: int
     end: int
@@ -63,12 +71,13 @@ class Turn(NamedTuple):
 
 
 class Codes(Dict[bytes, int]):
-    """{address and word: the number of the instruction}, and of each number its shape and the registers that it writes and
-    reads."""
+    """{address and word: the number of the instruction}, and of each number its shape and the
+    registers that it writes and reads."""
 
     def __init__(self, rows: Rows, calls: Calls) -> None:
         super().__init__()
-        self.codes, self.entries = rows.codes, calls.entries
+        self.codes = rows.codes
+        self.entries = calls.entries
         self.shapes: list[int] = []
         self.registers: list[tuple[int, int, int]] = []
 
@@ -90,14 +99,17 @@ class Codes(Dict[bytes, int]):
         ins = Instruction(len(self.codes), row.partition(b" | ")[0])
         self.codes.append(ins)
         shape = WRITES if ins.rd and (ins.kind != CALL or ins.name == "ecall") else 0
-        if ins.kind == JUMP and (ins.call or ins.ret or not ins.leads or self.entries.are_led_to(ins.pc, ins.leads)):
+        if ins.kind == JUMP and (ins.call or ins.ret or not ins.leads
+                                 or self.entries.are_led_to(ins.pc, ins.leads)):
             shape |= GOES
         elif ins.kind == AMO:
-            shape |= STORES | TRIES if ins.name.startswith("sc.") else LOADS if ins.name.startswith("lr.") else BOTH
+            shape |= (STORES | TRIES if ins.name.startswith("sc.")
+                      else LOADS if ins.name.startswith("lr.") else BOTH)
         else:
             shape |= {LOAD: LOADS, STORE: STORES, CALL: ASKS}.get(ins.kind, 0)
         self.shapes.append(shape)
-        # A jump reads no second register. For a call and a return it is a0, which has an argument or a result.
+        # A jump reads no second register. For a call and a return it is a0, which has an argument
+        # or a result.
         self.registers.append((ins.rd or NO_REGISTER, ins.rs1, A0 if shape & GOES else ins.rs2))
         self[key] = ins.at
 
@@ -107,9 +119,13 @@ class Reader:
     latest  of the address of a word the row that stored it last, and its value"""
 
     def __init__(self, rows: Rows, writers: Writers, calls: Calls) -> None:
-        self.rows, self.writers, self.calls, self.codes = rows, writers, calls, Codes(rows, calls)
+        self.rows = rows
+        self.writers = writers
+        self.calls = calls
+        self.codes = Codes(rows, calls)
         first = rows.log.first_intervals()
-        self.harts = {i: State(i, first[i].registers if i in first else (0,) * 32) for i in range(rows.log.harts)}
+        self.harts = {i: State(i, first[i].registers if i in first else (0,) * 32)
+                      for i in range(rows.log.harts)}
         self.numbers = {b"%-2d" % hart: hart for hart in self.harts}
         self.hart: Optional[State] = None       # whose row was read last
         self.latest: dict[int, tuple[int, int]] = {}
@@ -121,7 +137,9 @@ class Reader:
             self.harts[hart].values = list(values)
 
     def read(self, text: bytes) -> None:
-        rows, self.start, lines = self.rows, len(self.rows.code), text[1:].split(b"\n")
+        rows = self.rows
+        self.start = len(self.rows.code)
+        lines = text[1:].split(b"\n")
         harts = self.harts_of(lines)
         turns = self.turns(lines, harts)
         codes = self.codes.of(lines, turns)
@@ -144,7 +162,8 @@ class Reader:
         rows = self.rows
         rows.harts = {number: hart for number, hart in rows.harts.items() if hart.last}
         rows.last = {number: hart.last for number, hart in rows.harts.items()}
-        rows.final = {number: [self.value(self.harts[number], register) for register in range(32)] for number in rows.last}
+        rows.final = {number: [self.value(self.harts[number], register) for register in range(32)]
+                      for number in rows.last}
         rows.size = len(rows.code) - 1
         self.writers.count_pairs()
 
@@ -156,7 +175,8 @@ class Reader:
 
     def turns(self, lines: Sequence[bytes], harts: bytes) -> list[Turn]:
         """The turns of a chunk. A turn is cut where its counts get a digit more."""
-        changes = compress(range(1, len(harts)), map(ne, harts, harts[1:])) if len(self.harts) > 1 else ()
+        changes = (compress(range(1, len(harts)), map(ne, harts, harts[1:])) if len(self.harts) > 1
+                   else ())
         begins = [0, *changes, len(harts)]
         found = []
         for begin, end in zip(begins, begins[1:]):
@@ -164,21 +184,27 @@ class Reader:
             while begin < end:
                 head = b"%d %d " % (hart.number, hart.count)
                 size = min(end - begin, 10 ** len(str(hart.count)) - hart.count)
-                if not lines[begin + size - 1].startswith(b"%d %d " % (hart.number, hart.count + size - 1)):
-                    hart.count, size = int(lines[begin].split(b" ", 2)[1]), 1       # rows before it are left out
+                if not lines[begin + size - 1].startswith(b"%d %d " % (hart.number,
+                                                                       hart.count + size - 1)):
+                    # Rows before it are left out
+                    hart.count = int(lines[begin].split(b" ", 2)[1])
+                    size = 1
                     head = b"%d %d " % (hart.number, hart.count)
                 found.append(Turn(hart, begin, begin + size, hart.count, len(head)))
-                begin, hart.count = begin + size, hart.count + size
+                begin = begin + size
+                hart.count = hart.count + size
         return found
 
-    def alone(self, text: bytes, lines: Sequence[bytes], shapes: bytearray) -> dict[int, list[bytes]]:
-        """{place: what the row tells} of faults and system calls. Shapes are corrected: of these if they write no register,
-        and of store-conditionals that failed."""
+    def alone(self, text: bytes, lines: Sequence[bytes],
+              shapes: bytearray) -> dict[int, list[bytes]]:
+        """{place: what the row tells} of faults and system calls. Shapes are corrected: of these if
+        they write no register, and of store-conditionals that failed."""
         found: dict[int, list[bytes]] = {}
         at = text.rfind(FAULT)
         while at >= 0:
             place = text.count(b"\n", 0, at) - 1
-            shapes[place], found[place] = 0, lines[place].split(FAULT)[1].split(b" ")
+            shapes[place] = 0
+            found[place] = lines[place].split(FAULT)[1].split(b" ")
             at = text.rfind(FAULT, 0, at)
         for place in [each.start() for each in SPECIAL.finditer(shapes)]:
             if shapes[place] & TRIES:
@@ -190,19 +216,23 @@ class Reader:
                 self.rows.silent.add(self.start + place)
         return dict(sorted(found.items()))
 
-    def link(self, turns: Sequence[Turn], codes: Sequence[int], alone: dict[int, list[bytes]]) -> None:
+    def link(self, turns: Sequence[Turn], codes: Sequence[int],
+             alone: dict[int, list[bytes]]) -> None:
         """Finds of each row the rows that wrote its registers."""
         stops = iter([*alone, len(codes)])
         place = next(stops)
         for turn in turns:
-            hart, at, kept = turn.hart, turn.begin, self.rows.harts[turn.hart.number]
+            hart = turn.hart
+            at = turn.begin
+            kept = self.rows.harts[turn.hart.number]
             if hart is not self.hart:
                 self.hart = hart
                 kept.begin(self.start + at, turn.first)
             while place < turn.end:
                 self.link_rows(hart, codes[at:place], self.start + at)
                 self.link_alone(hart, self.start + place, alone[place])
-                at, place = place + 1, next(stops)
+                at = place + 1
+                place = next(stops)
             self.link_rows(hart, codes[at:turn.end], self.start + at)
             kept.last = self.start + turn.end - 1
 
@@ -221,7 +251,9 @@ class Reader:
 
     def link_alone(self, hart: State, n: int, fault: list[bytes]) -> None:
         """A row that faulted, or else a system call."""
-        rows, wrote, ins = self.rows, self.writers, self.rows.code_of(n)
+        rows = self.rows
+        wrote = self.writers
+        ins = self.rows.code_of(n)
         if not fault:
             wrote.first.append(hart.writers[ins.rs1])
             wrote.second.append(hart.writers[ins.rs2])
@@ -233,7 +265,8 @@ class Reader:
             return
         name = fault[0].decode()
         before = n - 1 if rows.hart[n - 1] == hart.number else rows.harts[hart.number].last
-        is_here = name not in ("FetchOutside", "Illegal") or not before     # else its address is what the jump took
+        # Else its address is what the jump took
+        is_here = name not in ("FetchOutside", "Illegal") or not before
         wrote.first.append(hart.writers[ins.rs1] if is_here else wrote.first[before])
         wrote.second.append(0)
         rows.flags[n] = FAULTS
@@ -241,49 +274,63 @@ class Reader:
 
     def value(self, hart: State, register: int) -> int:
         """What a register holds, by the row that wrote it."""
-        return self.rows.values[hart.writers[register]] if hart.writers[register] else hart.values[register]
+        return (self.rows.values[hart.writers[register]] if hart.writers[register]
+                else hart.values[register])
 
     def go(self, n: int) -> None:
         """A call, a return, or a jump to a function."""
-        values, wrote, hart = self.rows.values, self.writers, self.harts[self.rows.hart[n]]
-        writer, wrote.second[n] = wrote.second[n], 0
+        values = self.rows.values
+        wrote = self.writers
+        hart = self.harts[self.rows.hart[n]]
+        writer = wrote.second[n]
+        wrote.second[n] = 0
         a0 = values[writer] if writer else hart.values[A0]
         base = wrote.first[n]
-        self.calls.go(n, writer, a0, values[base] if base else hart.values[self.rows.code_of(n).rs1])
+        self.calls.go(n, writer, a0,
+                      values[base] if base else hart.values[self.rows.code_of(n).rs1])
 
     def access(self, lines: Sequence[bytes], shapes: bytearray, here: Sequence[int]) -> None:
         """Fills the columns of accesses, and tells each who stored its word."""
-        rows, kinds = self.rows, shapes.translate(TOUCHED, NO_ACCESS)
+        rows = self.rows
+        kinds = shapes.translate(TOUCHED, NO_ACCESS)
         mine = list(compress(lines, shapes.translate(ACCESSED)))
         which = array("I", compress(here, shapes.translate(ACCESSED)))
         both = [n for n, kind in zip(which, kinds) if kind == BOTH] if BOTH in kinds else []
-        stored = numbers(line[-8:] for line, kind in zip(mine, kinds) if kind == BOTH) if both else array("I")
+        stored = (numbers(line[-8:] for line, kind in zip(mine, kinds) if kind == BOTH) if both
+                  else array("I"))
         rows.updates.extend(both)
         rows.stored.extend(stored)
-        told = numbers([line[-43:-26] if kind == BOTH else line[-17:] for line, kind in zip(mine, kinds)] if both else
-                       [line[-17:] for line in mine])
+        told = numbers([line[-43:-26] if kind == BOTH else line[-17:] for line, kind
+                        in zip(mine, kinds)] if both else [line[-17:] for line in mine])
         rows.accesses.extend(which)
         rows.addresses.extend(told[::2])
         rows.words.extend(told[1::2])
         self.follow(which, kinds, told, iter(stored))
 
-    def follow(self, which: Iterable[int], kinds: bytes, told: Sequence[int], stored: Iterator[int]) -> None:
-        latest, flags, second, words = self.latest, self.rows.flags, self.writers.second, self.writers.word
+    def follow(self, which: Iterable[int], kinds: bytes, told: Sequence[int],
+               stored: Iterator[int]) -> None:
+        latest = self.latest
+        flags = self.rows.flags
+        second = self.writers.second
+        words = self.writers.word
         for n, kind, address, value in zip(which, kinds, told[::2], told[1::2]):
-            word, flag = address & WORD, address & OFFSET
+            word = address & WORD
+            flag = address & OFFSET
             writer, held = latest.get(word, NOTHING)
             if kind & LOADS:
                 if held != value:
                     if held >= 0:               # changed, and no row did it: a `read` call
                         flag |= CHANGED
-                    writer, held = 0, value
+                    writer = 0
+                    held = value
                     latest[word] = writer, held
                 if not writer:
                     flag |= UNSTORED
                 if kind == BOTH:
                     value = next(stored)
             if kind > STORES and held == value and (kind == BOTH or not flags[second[n]] & LOADS):
-                flag |= KEEPS                   # of an atomic, but for a value that another word gave a store-conditional
+                # Of an atomic, but for a value that another word gave a store-conditional
+                flag |= KEEPS
             words[n] = writer
             if flag:
                 flags[n] |= flag

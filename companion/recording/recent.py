@@ -1,4 +1,5 @@
-"""The end of a large log as a log of its own, since what tells of a crash is mostly among its last rows.
+"""The end of a large log as a log of its own, since what tells of a crash is mostly among its last
+rows.
 
 How many rows an interval has is in its Header and its End, so what is read is decided before a row
 is asked for. A head and the last blocks behind it are a file whose end `salvage` saves
@@ -19,15 +20,20 @@ from .head import LONGEST, VERSION_1, Head, head_of, read_head
 from .log import (END, FIRST_FAULT, HEADER, LENGTH_BACK, REASONS, SEAL, At, End, Log, changed,
                   check, load_log, no_row, runs_of)
 
-LARGEST_SMALL = 1 << 20                         # bytes: a file of version 1 that is larger isn't read whole
-FIRST_ROWS, MORE_ROWS = 1000000, 2600000        # are read at first, and if values come from before them
+# bytes: a file of version 1 that is larger isn't read whole
+LARGEST_SMALL = 1 << 20
+# Are read at first, and if values come from before them
+FIRST_ROWS = 1000000
+MORE_ROWS = 2600000
 
 
 class LogFile:
-    """A log that is checked, and ends of it. Its files are gone once it is closed, unless they are in a folder that is given."""
+    """A log that is checked, and ends of it. Its files are gone once it is closed, unless they are
+    in a folder that is given."""
 
     def __init__(self, name: str, folder: str = "") -> None:
-        self.name, self.source = name, name
+        self.name = name
+        self.source = name
         self.files = contextlib.ExitStack()
         self.folder = folder
 
@@ -40,7 +46,8 @@ class LogFile:
             try:
                 self.folder = self.files.enter_context(Scratch())
             except OSError as error:
-                raise CompanionError(f"no place for the end of {self.name}: {error.strerror or error}", UNREADABLE)
+                raise CompanionError(f"no place for the end of {self.name}: "
+                                     f"{error.strerror or error}", UNREADABLE)
         return os.path.join(self.folder, name)
 
     @property
@@ -55,15 +62,16 @@ class LogFile:
         return load_log(self.name)
 
     def end(self, rows: int, asked: Optional[At] = None) -> Log:
-        """The shortest end that holds so many rows and what else is needed, or the whole log if it is no longer. Of a row that
-        is asked of, so many rows before it are held."""
+        """The shortest end that holds so many rows and what else is needed, or the whole log if it
+        is no longer. Of a row that is asked of, so many rows before it are held."""
         try:
             return self.end_of_file(rows, asked)
         except (ValueError, IndexError, KeyError, struct.error):
             raise changed(self.name)
 
     def end_of_file(self, rows: int, asked: Optional[At]) -> Log:
-        with open(self.source, "rb") as file, mmap.mmap(file.fileno(), 0, access=mmap.ACCESS_READ) as data:
+        with open(self.source, "rb") as file, mmap.mmap(file.fileno(), 0,
+                                                        access=mmap.ACCESS_READ) as data:
             head = head_of(data[:LONGEST])
             if head.version == VERSION_1:
                 if len(data) <= LARGEST_SMALL:
@@ -85,14 +93,15 @@ class LogFile:
         if int(saved.split()[-1]) != last.size:     # a bad block is left out with those before it
             raise changed(self.name)
         log = load_log(self.path("log"))
-        log.shown, log.unread = self.name, last.unread
+        log.shown = self.name
+        log.unread = last.unread
         log.ends = dict(sorted(last.last.items()))      # some may be further back
         return log
 
 
 def exit_code(name: str) -> Optional[int]:
-    """What a program that ended well ended with, as Linux tells it: the code of exit_group, else that of hart 0. None if the log,
-    which isn't checked, doesn't say it."""
+    """What a program that ended well ended with, as Linux tells it: the code of exit_group, else
+    that of hart 0. None if the log, which isn't checked, doesn't say it."""
     try:
         with open(name, "rb") as file, mmap.mmap(file.fileno(), 0, access=mmap.ACCESS_READ) as data:
             head = head_of(data[:LONGEST])
@@ -100,7 +109,8 @@ def exit_code(name: str) -> Optional[int]:
             ends = LastBlocks(data, head, 1, None).last if is_sealed else Log(name, data[:]).ends
     except (CompanionError, OSError, ValueError, IndexError, KeyError, struct.error):
         return None
-    codes = [end.value for end in ends.values() if end.reason == "group"] + [ends[hart].value for hart in (0,) if hart in ends]
+    codes = ([end.value for end in ends.values() if end.reason == "group"]
+             + [ends[hart].value for hart in (0,) if hart in ends])
     return codes[0] & 255 if codes else None
 
 
@@ -121,14 +131,17 @@ class LastBlocks:
     last     {hart: its last End}, wherever that is"""
 
     def __init__(self, data: mmap.mmap, head: Head, rows: int, asked: Optional[At]) -> None:
-        self.most, self.asked = rows, asked
+        self.most = rows
+        self.asked = asked
         self.rows = self.unread = self.size = 0
-        self.ends: dict[int, int] = {}          # {hart: where its interval ends, whose Header comes further back}
+        # {hart: where its interval ends, whose Header comes further back}
+        self.ends: dict[int, int] = {}
         self.awaited: set[int] = set()          # harts whose last interval is still incomplete
         self.faulted: set[int] = set()
         self.seen: set[int] = set()
         self.last: dict[int, End] = {}
-        begin, end = head.records_at, len(data)
+        begin = head.records_at
+        end = len(data)
         while end > begin and not (self.unread and len(self.last) == head.harts):
             size, = struct.unpack_from("<I", data, end - LENGTH_BACK)
             end -= SEAL + size
@@ -165,9 +178,11 @@ class LastBlocks:
                 if record[10] >= FIRST_FAULT:
                     self.faulted.add(hart)
         elif record[0] == HEADER and hart in self.ends:
-            begin, end = struct.unpack_from("<Q", record, 10)[0], self.ends.pop(hart)
+            begin = struct.unpack_from("<Q", record, 10)[0]
+            end = self.ends.pop(hart)
             self.awaited.discard(hart)
             self.rows += end - begin
             if self.asked and self.asked.hart == hart and begin <= self.asked.count <= end:
-                self.rows, self.asked = self.asked.count - begin, None
+                self.rows = self.asked.count - begin
+                self.asked = None
                 self.awaited = set()

@@ -8,8 +8,9 @@ from .rows import Access
 
 
 class Row(NamedTuple):
-    """An instruction that was done. `ic` is its hart's count before it, `word` is None without code. `register` is the name
-    of what it wrote, or empty, and `result` the value; `fault` is the name of the fault, or empty."""
+    """An instruction that was done. `ic` is its hart's count before it, `word` is None without
+    code. `register` is the name of what it wrote, or empty, and `result` the value; `fault` is the
+    name of the fault, or empty."""
     hart: int
     ic: int
     pc: int
@@ -28,7 +29,9 @@ def parse_row(line: bytes) -> Optional[Row]:
     words = parts[0].split(" ", 4)
     if not words[0].isdigit() or len(words) < 5:
         return None
-    register, result, fault = "", 0, ""
+    register = ""
+    result = 0
+    fault = ""
     accesses: dict[str, Access] = {}
     for told in parts[1:]:
         kind, _, rest = told.partition(" ")
@@ -41,8 +44,8 @@ def parse_row(line: bytes) -> Optional[Row]:
             register, _, value = told.partition("=")
             result = int(value, 16)
     word = None if words[3][0] == "-" else int(words[3], 16)
-    return Row(int(words[0]), int(words[1]), int(words[2], 16), word, words[4], register, result, accesses.get("load"),
-               accesses.get("store"), fault)
+    return Row(int(words[0]), int(words[1]), int(words[2], 16), word, words[4], register, result,
+               accesses.get("load"), accesses.get("store"), fault)
 
 
 def rows_of(log_name: str, elf_name: str) -> Iterator[Row]:

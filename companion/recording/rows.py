@@ -1,4 +1,5 @@
-"""What was read: the rows of `joint` as numbers, 10 bytes a row and 12 for each access to memory, in arrays.
+"""What was read: the rows of `joint` as numbers, 10 bytes a row and 12 for each access to memory,
+in arrays.
 
 Row numbers begin with 1; 0 is no row."""
 from __future__ import annotations
@@ -10,9 +11,16 @@ from typing import NamedTuple, Optional
 from .instruction import LOAD, NAMES, SP, Instruction
 from .log import Log
 
-# A row's flags. OFFSET: the byte of its word. UNSTORED: no row stored what it loads. CHANGED: a `read` call did since the
-# last row. KEEPS: it stores what the word holds, as a lock's spinning does.
-OFFSET, LOADS, STORES, UNSTORED, CHANGED, FAULTS, KEEPS = 3, 4, 8, 16, 32, 64, 128
+# A row's flags. OFFSET: the byte of its word. UNSTORED: no row stored what it loads. CHANGED: a
+# `read` call did since the last row. KEEPS: it stores what the word holds, as a lock's spinning
+# does.
+OFFSET = 3
+LOADS = 4
+STORES = 8
+UNSTORED = 16
+CHANGED = 32
+FAULTS = 64
+KEEPS = 128
 
 
 class Access(NamedTuple):
@@ -28,8 +36,10 @@ class Hart:
     __slots__ = ("last", "begins", "counts", "is_cut")
 
     def __init__(self) -> None:
-        self.last, self.is_cut = 0, False
-        self.begins, self.counts = array("I"), array("Q")
+        self.last = 0
+        self.is_cut = False
+        self.begins = array("I")
+        self.counts = array("Q")
 
     def begin(self, n: int, count: int) -> None:
         """Its rows begin again, at a count."""
@@ -69,10 +79,16 @@ class Rows:
     def __init__(self, log: Log) -> None:
         self.log = log
         self.codes: list[Instruction] = []
-        self.code, self.hart, self.flags, self.values = array("I", [0]), array("B", [0]), array("B", [0]), array("I", [0])
+        self.code = array("I", [0])
+        self.hart = array("B", [0])
+        self.flags = array("B", [0])
+        self.values = array("I", [0])
         self.silent: set[int] = set()
-        self.accesses, self.addresses, self.words = array("I"), array("I"), array("I")
-        self.updates, self.stored = array("I"), array("I")
+        self.accesses = array("I")
+        self.addresses = array("I")
+        self.words = array("I")
+        self.updates = array("I")
+        self.stored = array("I")
         self.reads: list[ReadCall] = []
         self.harts = {hart: Hart() for hart in range(log.harts)}
         self.last: dict[int, int] = {}
@@ -103,7 +119,8 @@ class Rows:
         hart = self.hart[n]
         if n == self.last[hart]:
             return 0
-        return n + 1 if self.hart[n + 1] == hart else self.harts[hart].begins[bisect.bisect_right(self.harts[hart].begins, n)]
+        return (n + 1 if self.hart[n + 1] == hart
+                else self.harts[hart].begins[bisect.bisect_right(self.harts[hart].begins, n)])
 
     def last_rows(self, n: int, most: int) -> list[int]:
         """The latest rows of a row's hart up to it, in their order."""
@@ -150,7 +167,8 @@ class Rows:
 
     def result_of(self, n: int) -> Optional[int]:
         """What a row put into its register, or None."""
-        has_result = n and self.code_of(n).rd and not self.flags[n] & FAULTS and n not in self.silent
+        has_result = (n and self.code_of(n).rd and not self.flags[n] & FAULTS
+                      and n not in self.silent)
         return self.values[n] if has_result else None
 
     def mask(self, n: int) -> int:
@@ -159,18 +177,23 @@ class Rows:
 
     def is_spill(self, load: int, store: int) -> bool:
         """Whether a load takes back the register that a store put aside on the stack."""
-        taken, put = self.code_of(load), self.code_of(store)
-        return taken.rs1 == put.rs1 == SP and taken.kind == LOAD and taken.rd == put.rs2 and self.hart[load] == self.hart[store]
+        taken = self.code_of(load)
+        put = self.code_of(store)
+        return (taken.rs1 == put.rs1 == SP and taken.kind == LOAD and taken.rd == put.rs2
+                and self.hart[load] == self.hart[store])
 
     def text(self, n: int) -> str:
         """A row as `joint` prints it."""
-        return " | ".join([f"{self.hart[n]} {self.count_of(n)} {self.code_of(n).row}", *self.told(n)])
+        return " | ".join([f"{self.hart[n]} {self.count_of(n)} {self.code_of(n).row}",
+                           *self.told(n)])
 
     def told(self, n: int) -> list[str]:
         """What a row did, as it is told there."""
         if self.flags[n] & FAULTS and self.fault:
             return [f"fault {self.fault.name} {self.fault.value:08x}"]
-        result, load, store = self.result_of(n), self.load_of(n), self.store_of(n)
+        result = self.result_of(n)
+        load = self.load_of(n)
+        store = self.store_of(n)
         said = [f"{NAMES[self.code_of(n).rd]}={result:08x}"] if result is not None else []
         said += [f"load {load.address:08x}={load.value:08x}"] if load else []
         return said + ([f"store {store.address:08x}={store.value:08x}"] if store else [])

@@ -1,5 +1,6 @@
-"""Lines of a program's sources. Its ELF file can name any file as one, and a log and an ELF can come from anyone. So those
-alone are read that its user has beside the ELF file, in the current folder, or in folders given by --source."""
+"""Lines of a program's sources. Its ELF file can name any file as one, and a log and an ELF can
+come from anyone. So those alone are read that its user has beside the ELF file, in the current
+folder, or in folders given by --source."""
 from __future__ import annotations
 
 import os
@@ -10,14 +11,16 @@ from ..call.errors import MISSING, CompanionError
 from ..call.options import AND
 from ..call.text import clean
 
-SUFFIXES = (".c", ".h", ".s", ".S", ".cc", ".cpp", ".cxx", ".hpp", ".hh", ".inc", ".rs", ".zig", ".adb", ".f90", ".go")
+SUFFIXES = (".c", ".h", ".s", ".S", ".cc", ".cpp", ".cxx", ".hpp", ".hh", ".inc", ".rs",
+            ".zig", ".adb", ".f90", ".go")
 LARGEST = 4 << 20
 SYSTEM = "/proc/", "/sys/"      # files there look like regular ones
 LATER = 60                      # seconds: a checkout writes files in any order
 
 
 class Sources:
-    """Reads regular files whose own path, behind links, has a source's suffix and lies below one of the folders.
+    """Reads regular files whose own path, behind links, has a source's suffix and lies below one of
+    the folders.
 
     outside  the first file that would be read, but lies elsewhere
     newer    the first one that was changed after the ELF file was built"""
@@ -36,9 +39,11 @@ class Sources:
         return self.texts[path]
 
     def read(self, path: str) -> list[str]:
-        """The path is of the machine that built the program: the file may lie beside the ELF, or in a given folder."""
+        """The path is of the machine that built the program: the file may lie beside the ELF, or in
+        a given folder."""
         outside = ""
-        for name in (path, *(os.path.join(folder, os.path.basename(path)) for folder in self.beside)):
+        for name in (path,
+                     *(os.path.join(folder, os.path.basename(path)) for folder in self.beside)):
             real = os.path.realpath(name)
             if real.endswith(SUFFIXES) and os.path.isfile(real) and not real.startswith(SYSTEM):
                 if any(is_below(real, folder) for folder in self.folders):
@@ -50,9 +55,11 @@ class Sources:
 
     def trouble(self) -> list[str]:
         """What to say if a source lies elsewhere, or may be another than was built."""
-        said = [f"No line of {clean(self.outside)} is shown: it is neither below the folder of the ELF file nor below this one. "
+        said = [f"No line of {clean(self.outside)} is shown: "
+                "it is neither below the folder of the ELF file nor below this one. "
                 "--source DIR allows another."] if self.outside else []
-        newer = f"{clean(self.newer)} is newer than the ELF file: its lines may be others than those that were built."
+        newer = (f"{clean(self.newer)} is newer than the ELF file: "
+                 "its lines may be others than those that were built.")
         return said + ([newer] if self.newer else [])
 
 

@@ -1,7 +1,9 @@
-"""The calls of each hart along chunks of text, and what a call, a return and a jump to a function do to them.
+"""The calls of each hart along chunks of text, and what a call, a return and a jump to a function
+do to them.
 
-A frame is the address to which a call returns, as eight digits; that of a jump to a function is `t` and the jump's own address,
-and it ends with the function that jumped. Frames are linked lists, so that the calls over a row stay as they were there."""
+A frame is the address to which a call returns, as eight digits; that of a jump to a function is `t`
+and the jump's own address, and it ends with the function that jumped. Frames are linked lists, so
+that the calls over a row stay as they were there."""
 from __future__ import annotations
 
 import bisect
@@ -11,29 +13,33 @@ from typing import Any, Dict, List, Mapping, NamedTuple, Optional, Tuple
 from .calls import Entries
 from .instruction import JUMP, Instruction
 
-Frame = Tuple[bytes, Any, int]              # an address, the frame that it was called in or None, and how deep it is
+# An address, the frame that it was called in or None, and how deep it is
+Frame = Tuple[bytes, Any, int]
 BOTTOM: Frame = (b"", None, 0)
 JUMPED = b"t"                               # what the frame of a jump to a function begins with
-MOST_FRAMES = 1 << 20                       # are kept of a hart: of more, as of a recursion without an end, the inner half
-# A jump's address and word, and its chunk's next row: hart, count, address. No other row has the letter j.
+# Are kept of a hart: of more, as of a recursion without an end, the inner half
+MOST_FRAMES = 1 << 20
+# A jump's address and word, and its chunk's next row: hart, count, address. No other row has the
+# letter j.
 NEXT_ROWS = re.compile(rb"j(?<=(\w{8} \w{8}) j)al[^\n]*\n(?=(\d+) (\d+) (\w{8}))")
 TARGETS = re.compile(rb"j(?<=(\w{8} \w{8}) j)al[^\n]*\n(?=\d+ \d+ (\w{8}))")
 LAST_JUMP = re.compile(rb"\n(\d+) \d+ (\w{8} \w{8}) jal[^\n]*\Z")
 KEY = 17                                    # letters of an address and a word
-HEAD = 48                                   # letters of a row: more than hart, count and address have
+# Letters of a row: more than hart, count and address have
+HEAD = 48
 
 
 class Jump(NamedTuple):
-    """A call, a return, or a jump that can lead to a function. `frame` is what it puts on the stack, nothing if it is a return;
-    `is_sure`: it calls or returns, wherever it leads."""
+    """A call, a return, or a jump that can lead to a function. `frame` is what it puts on the
+    stack, nothing if it is a return; `is_sure`: it calls or returns, wherever it leads."""
     frame: bytes
     is_sure: bool
     code: Instruction
 
 
 class Move(NamedTuple):
-    """A jump that was followed: its hart, the frames before and behind it, and the row that it led to: its place in the chunk, its
-    count and its address."""
+    """A jump that was followed: its hart, the frames before and behind it, and the row that it led
+    to: its place in the chunk, its count and its address."""
     hart: bytes
     jump: Jump
     before: Frame
@@ -48,8 +54,9 @@ class Move(NamedTuple):
 
 
 def returned(top: Frame, target: bytes) -> Frame:
-    """Behind a return: it goes to the nearest frame whose call returns there. One that fits none changes nothing, but that the
-    function that was jumped to from one whose call isn't known has ended."""
+    """Behind a return: it goes to the nearest frame whose call returns there. One that fits none
+    changes nothing, but that the function that was jumped to from one whose call isn't known has
+    ended."""
     at: Optional[Frame] = top
     while at is not None and at[0] != target:
         at = at[1]
@@ -60,7 +67,8 @@ def returned(top: Frame, target: bytes) -> Frame:
 
 
 def went(top: Frame, frame: bytes) -> Frame:
-    """Behind a jump to a function. Of several in a row the last is kept, so that a loop of them takes no room."""
+    """Behind a jump to a function. Of several in a row the last is kept, so that a loop of them
+    takes no room."""
     under: Frame = top[1] if top[0][:1] == JUMPED else top
     return frame, under, under[2] + 1
 
@@ -96,7 +104,8 @@ class Jumps(Dict[bytes, Optional[Jump]]):
 
     def __missing__(self, key: bytes) -> Optional[Jump]:
         code = Instruction(0, key + b" j")
-        pc, is_known = b"%08x" % code.pc, code.kind == JUMP and code.rs1 == 0
+        pc = b"%08x" % code.pc
+        is_known = code.kind == JUMP and code.rs1 == 0
         if code.call or code.ret:
             found: Optional[Jump] = Jump(b"%08x" % (code.pc + 4) if code.call else b"", True, code)
         elif is_known and not self.entries.are_led_to(code.pc, code.leads):
@@ -112,25 +121,31 @@ class Jumps(Dict[bytes, Optional[Jump]]):
             return returned(top, target)
         if jump.frame[:1] != JUMPED:
             return jump.frame, top, top[2] + 1
-        return went(top, jump.frame) if jump.is_sure or self.entries.are_led_to(jump.code.pc, int(target, 16)) else top
+        return (went(top, jump.frame) if jump.is_sure
+                or self.entries.are_led_to(jump.code.pc, int(target, 16)) else top)
 
 
 class Chunk:
-    """A chunk of text, with the frames before it and the jumps that were the harts' last rows then. Its moves are followed once
-    somebody asks for them.
+    """A chunk of text, with the frames before it and the jumps that were the harts' last rows then.
+    Its moves are followed once somebody asks for them.
 
     marks   {hart: the places at which its frames change, and its innermost frame from there on}"""
 
-    def __init__(self, text: bytes, jumps: Jumps, before: Dict[bytes, Frame], waited: Dict[bytes, Jump]) -> None:
-        self.text, self.jumps, self.before = text, jumps, before
-        self.tops, self.waiting = dict(before), dict(waited)
+    def __init__(self, text: bytes, jumps: Jumps, before: Dict[bytes, Frame],
+                 waited: Dict[bytes, Jump]) -> None:
+        self.text = text
+        self.jumps = jumps
+        self.before = before
+        self.tops = dict(before)
+        self.waiting = dict(waited)
         self.marks: Dict[bytes, Tuple[List[int], List[Frame]]] = {}
         self.found: Optional[List[Move]] = None
 
     def moves(self) -> List[Move]:
         """The jumps that led to a row of the chunk, in the order of those rows."""
         if self.found is None:
-            text, self.found = self.text, []
+            text = self.text
+            self.found = []
             for hart in list(self.waiting):
                 self.arrive(hart, text.find(b"\n" + hart + b" "))
             for at in NEXT_ROWS.finditer(text):
@@ -139,17 +154,20 @@ class Chunk:
                     begin = text.rfind(b"\n", 0, at.start()) + 1
                     hart = text[begin:text.index(b" ", begin)]
                     self.waiting[hart] = jump
-                    self.arrive(hart, at.end() - 1 if hart == at[2] else text.find(b"\n" + hart + b" ", at.end() - 1))
+                    self.arrive(hart, at.end() - 1 if hart == at[2]
+                                else text.find(b"\n" + hart + b" ", at.end() - 1))
             self.waiting.update(last_jump(text, self.jumps))
             self.found.sort(key=lambda move: move.place)
         return self.found
 
     def arrive(self, hart: bytes, at: int) -> None:
-        """A hart's jump leads to its next row, which begins at a place of the chunk, or is in a later one."""
+        """A hart's jump leads to its next row, which begins at a place of the chunk, or is in a
+        later one."""
         if at < 0 or self.found is None:
             return
         _, count, target, _ = self.text[at + 1:at + HEAD].split(b" ", 3)
-        jump, before = self.waiting.pop(hart), self.tops.get(hart, BOTTOM)
+        jump = self.waiting.pop(hart)
+        before = self.tops.get(hart, BOTTOM)
         self.tops[hart] = behind = self.jumps.behind(before, jump, target)
         self.found.append(Move(hart, jump, before, behind, at, int(count), target))
         marks = self.marks.setdefault(hart, ([0], [before]))
@@ -165,18 +183,22 @@ class Chunk:
 
 class Stacks:
     """chunk   the one that was taken last
-    tops    {hart: its innermost frame behind it}; floors: how deep the outermost one is that is kept
+    tops    {hart: its innermost frame behind it}; floors: how deep the outermost one is that is
+            kept
     waiting {hart: the jump that is its last row}"""
 
     def __init__(self, entries: Entries, harts: int) -> None:
-        self.entries, self.jumps, self.is_one = entries, Jumps(entries), harts == 1
+        self.entries = entries
+        self.jumps = Jumps(entries)
+        self.is_one = harts == 1
         self.tops: Dict[bytes, Frame] = {}
         self.floors: Dict[bytes, int] = {}
         self.waiting: Dict[bytes, Jump] = {}
         self.chunk = Chunk(b"", self.jumps, {}, {})
 
     def take(self, text: bytes) -> None:
-        """Follows the next chunk. Of one hart this is done without places, for which few chunks are asked."""
+        """Follows the next chunk. Of one hart this is done without places, for which few chunks are
+        asked."""
         self.chunk = Chunk(text, self.jumps, self.tops, self.waiting)
         if self.is_one:
             hart = text[1:text.index(b" ", 1)]
@@ -184,21 +206,26 @@ class Stacks:
             self.waiting = last_jump(text, self.jumps)
         else:
             self.chunk.moves()
-            self.tops, self.waiting = dict(self.chunk.tops), dict(self.chunk.waiting)
+            self.tops = dict(self.chunk.tops)
+            self.waiting = dict(self.chunk.waiting)
         for hart, top in self.tops.items():
             if top[2] - self.floors.get(hart, 0) > MOST_FRAMES:
                 self.tops[hart] = inner_half(top)
                 self.floors[hart] = top[2] - MOST_FRAMES // 2
 
     def begin_behind(self, last: Mapping[bytes, bytes]) -> None:
-        """Begins again behind rows that weren't followed, of which {hart: its last row} is given."""
-        self.tops, self.floors = {}, {}
-        jumps = ((hart, self.jumps[row.split(b" ", 2)[2][:KEY]]) for hart, row in last.items() if b"j" in row)
+        """Begins again behind rows that weren't followed, of which {hart: its last row} is
+        given."""
+        self.tops = {}
+        self.floors = {}
+        jumps = ((hart, self.jumps[row.split(b" ", 2)[2][:KEY]])
+                 for hart, row in last.items() if b"j" in row)
         self.waiting = {hart: jump for hart, jump in jumps if jump}
 
     def behind(self, text: bytes, hart: bytes) -> Frame:
         """The innermost frame of the only hart behind a chunk."""
-        top: Any = self.tops.get(hart, BOTTOM)      # (a frame; its type would have no end for mypy, which follows the loop)
+        # (a frame; its type would have no end for mypy, which follows the loop)
+        top: Any = self.tops.get(hart, BOTTOM)
         jumps = self.jumps
         if hart in self.waiting:
             top = jumps.behind(top, self.waiting[hart], text[1:HEAD].split(b" ", 3)[2])

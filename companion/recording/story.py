@@ -1,5 +1,5 @@
-"""A short order of turns as a story: the switches between harts, each with who stops where, who continues where, and what
-that does to a word that the one that stopped had loaded."""
+"""A short order of turns as a story: the switches between harts, each with who stops where, who
+continues where, and what that does to a word that the one that stopped had loaded."""
 from __future__ import annotations
 
 import re
@@ -54,7 +54,8 @@ def lines_by_piece(log: Log, elf_name: str, pieces: Pieces, most: int) -> list[l
     """Of each of the first so many pieces the lines with which its turns ended."""
     lines: dict[int, Iterator[bytes]] = {}
     for hart in {piece.hart for piece in pieces}:
-        lines[hart] = iter(turn_lines(log, elf_name, hart, sum(piece.turns for piece in pieces if piece.hart == hart)))
+        lines[hart] = iter(turn_lines(log, elf_name, hart,
+                                      sum(piece.turns for piece in pieces if piece.hart == hart)))
     return [[next(lines[piece.hart]) for _ in range(piece.turns)] for piece in pieces[:most]]
 
 
@@ -62,10 +63,14 @@ def switches_of(pieces: Pieces, lines: Sequence[Sequence[bytes]]) -> list[Switch
     """The switches between the pieces that have lines."""
     found = []
     for at in range(len(lines) - 1):
-        hart, again = pieces[at].hart, again_at(pieces, at)
-        between = b"".join(line for piece in lines[at + 1:again if again >= 0 else len(lines)] for line in piece)
-        done = [line for piece, each in zip(lines[:at + 1], pieces) if each.hart == hart for line in piece]
-        found.append(Switch(hart, pieces[at + 1].hart, parse_row(done[-1]), parse_row(lines[at + 1][0]), clash_of(done, between)))
+        hart = pieces[at].hart
+        again = again_at(pieces, at)
+        between = b"".join(line for piece in lines[at + 1:again if again >= 0 else len(lines)]
+                           for line in piece)
+        done = [line for piece, each in zip(lines[:at + 1], pieces) if each.hart == hart
+                for line in piece]
+        found.append(Switch(hart, pieces[at + 1].hart, parse_row(done[-1]),
+                            parse_row(lines[at + 1][0]), clash_of(done, between)))
     return found
 
 
@@ -85,19 +90,24 @@ def clash_of(before: Sequence[bytes], between: bytes) -> Optional[Clash]:
 
 def asked_story(given: Mapping[str, str], log: Log, elf_name: str) -> Optional[Story]:
     """That of the BOOK that a call names, if it does."""
-    return read_story(log, elf_name, given["--book"], given.get("--input", "")) if "--book" in given else None
+    return (read_story(log, elf_name, given["--book"], given.get("--input", ""))
+            if "--book" in given else None)
 
 
 def read_story(log: Log, elf_name: str, book: str, input_name: str) -> Story:
     """The story of LOG's BOOK, which is refused if it isn't. Only a short order's is told."""
     switches, turns = read_book(book, MOST_TOLD)
     if switches > MOST_TOLD:
-        return Story(switches, (), [], f"{counted(switches, 'switch')} are too many to tell: zelkuma shrink finds an order with fewer")
-    if max(log.rows(), len(turns)) > MOST_ROWS or sum(end.count for end in log.ends.values()) > MOST_AUDITED:
-        return Story(switches, (), [], f"{counted(switches, 'switch')}: the run is too long to look for their rows")
+        return Story(switches, (), [], f"{counted(switches, 'switch')} are too many to tell: "
+                     "zelkuma shrink finds an order with fewer")
+    if (max(log.rows(), len(turns)) > MOST_ROWS
+            or sum(end.count for end in log.ends.values()) > MOST_AUDITED):
+        return Story(switches, (), [],
+                     f"{counted(switches, 'switch')}: the run is too long to look for their rows")
     check_book(log.shown, elf_name, book, [f"--input={input_name}"] if input_name else [])
     pieces = pieces_of(turns)
-    return Story(switches, pieces, switches_of(pieces, lines_by_piece(log, elf_name, pieces, len(pieces))))
+    return Story(switches, pieces,
+                 switches_of(pieces, lines_by_piece(log, elf_name, pieces, len(pieces))))
 
 
 def frame_text(frame: Frame) -> str:
@@ -108,7 +118,8 @@ class Teller:
     """Tells switches in words."""
 
     def __init__(self, elf: Elf, places: Places) -> None:
-        self.elf, self.places = elf, places
+        self.elf = elf
+        self.places = places
 
     def where(self, row: Optional[Row]) -> str:
         return self.places.where(row.pc) if row else "a place that isn't known"
@@ -134,27 +145,31 @@ class Teller:
                 f"     hart {switch.other} continues at {self.with_source(switch.next)}"]
         if switch.clash:
             store, load = switch.clash
-            said.append(f"     hart {store.hart} stores to {self.word(store)} in {self.where(store)}, "
-                        f"which hart {load.hart} loaded in {self.where(load)}")
+            said.append(f"     hart {store.hart} stores to {self.word(store)} in "
+                        f"{self.where(store)}, which hart {load.hart} loaded in {self.where(load)}")
         return said
 
     def story(self, story: Story) -> list[str]:
         if story.left:
             return [story.left]
-        return [story.order()] + [line for at, switch in enumerate(story.switches, 1) for line in self.lines(at, switch)]
+        return [story.order()] + [line for at, switch in enumerate(story.switches, 1)
+                                  for line in self.lines(at, switch)]
 
     def answer(self, switch: Switch) -> dict[str, Any]:
         store, load = switch.clash or (None, None)
-        return {"hart": switch.hart, "other": switch.other, "stopped": self.point(switch.stopped), "next": self.point(switch.next),
-                "store": self.point(store), "load": self.point(load)}
+        return {"hart": switch.hart, "other": switch.other, "stopped": self.point(switch.stopped),
+                "next": self.point(switch.next), "store": self.point(store),
+                "load": self.point(load)}
 
     def story_answer(self, story: Optional[Story]) -> Optional[dict[str, Any]]:
         """The order for other programs, if a BOOK was given."""
         if story is None:
             return None
-        return {"all": story.all, "order": story.order(), "switches": [self.answer(switch) for switch in story.switches]}
+        return {"all": story.all, "order": story.order(),
+                "switches": [self.answer(switch) for switch in story.switches]}
 
     def point(self, row: Optional[Row]) -> Optional[dict[str, Any]]:
         if row is None:
             return None
-        return {"hart": row.hart, "count": row.ic, "place": place_of(self.places, row.pc), "inlined": self.inlined(row)}
+        return {"hart": row.hart, "count": row.ic, "place": place_of(self.places, row.pc),
+                "inlined": self.inlined(row)}

@@ -25,13 +25,17 @@ def begin_trace(log: Log, entries: Optional[Entries] = None) -> Trace:
 
 def read_trace(log: Log, elf_name: str, entries: Optional[Entries] = None, most: int = 0,
                asked: Optional[At] = None) -> Trace:
-    """The rows of a log: all, or with `most` about the last so many; of a row that is asked of, the last up to it."""
+    """The rows of a log: all, or with `most` about the last so many; of a row that is asked of, the
+    last up to it."""
     trace = begin_trace(log, entries)
-    rows, end = log.rows(), b""
+    rows = log.rows()
+    end = b""
     if asked and most and rows > most:
-        rows, end = rows_before(log, elf_name, asked), head_of(asked)
+        rows = rows_before(log, elf_name, asked)
+        end = head_of(asked)
     trace.rows.passed = max(0, rows - most) if most else 0
-    reader, passed = Reader(*trace), Passed(log, elf_name)
+    reader = Reader(*trace)
+    passed = Passed(log, elf_name)
     for text in after(trace.rows.passed, chunks(log.name, elf_name, log=log), passed.take):
         if trace.rows.passed and not reader.start:
             reader.begin_behind(passed.registers())
@@ -47,7 +51,8 @@ def read_trace(log: Log, elf_name: str, entries: Optional[Entries] = None, most:
 def trace_of(log: Log, text: bytes) -> Trace:
     """The rows that a text of `joint` or `replay` has. Some may be left out."""
     trace = begin_trace(log)
-    reader, rows = Reader(*trace), OTHER_LINES.sub(b"", b"\n" + text.rstrip(b"\n"))
+    reader = Reader(*trace)
+    rows = OTHER_LINES.sub(b"", b"\n" + text.rstrip(b"\n"))
     if rows.strip(b"\n"):
         reader.read(rows)
     reader.finish()

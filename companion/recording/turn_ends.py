@@ -7,10 +7,10 @@ from typing import Iterator, Match
 from ..call.program import Output
 from .log import Log
 
-# A row that accesses memory, calls the system or faults; or, behind a row that does neither, the end of an interval that was
-# full or came to the hart's limit.
-TURN_ENDS = re.compile(rb"^(?:\d+ \d+ \w+ \S+ (?:l[bhw]u? |s[bhw] |ecall|lr\.|sc\.|amo|[^|\n]*\| fault )"
-                       rb"|end \d+ \d+ \d+ (?:length|limit) ).*\n", re.M)
+# A row that accesses memory, calls the system or faults; or, behind a row that does neither, the
+# end of an interval that was full or came to the hart's limit.
+TURN_ENDS = re.compile(rb"^(?:\d+ \d+ \w+ \S+ (?:l[bhw]u? |s[bhw] |ecall|lr\.|sc\.|amo|[^|\n]*\| "
+                       rb"fault )|end \d+ \d+ \d+ (?:length|limit) ).*\n", re.M)
 
 
 def turn_ends(text: bytes) -> list[bytes]:
@@ -31,7 +31,8 @@ def has_asked(text: bytes, end: int) -> bool:
 
 
 def turn_lines(log: Log, elf_name: str, hart: int, turns: int) -> list[bytes]:
-    """The line with which each of a hart's turns ended, or nothing: the log has those of its last ones."""
+    """The line with which each of a hart's turns ended, or nothing: the log has those of its last
+    ones."""
     known: list[bytes] = []
     for interval in log.intervals:
         if interval.hart == hart:

@@ -1,6 +1,8 @@
-"""What debug information says of types: their sizes, the arrays and pointers in them, what a pointer leads to.
+"""What debug information says of types: their sizes, the arrays and pointers in them, what a
+pointer leads to.
 
-A type is the place of its entry. Chains and depths are bounded, since an entry can name any other, itself as well."""
+A type is the place of its entry. Chains and depths are bounded, since an entry can name any other,
+itself as well."""
 from __future__ import annotations
 
 import bisect
@@ -8,15 +10,23 @@ from itertools import islice
 from typing import Iterator, NamedTuple, Optional, Tuple
 
 from .dwarf import (
-    ARRAY, BASE, BITS, BYTE_SIZE, CLASS, COUNT, ENUM, MEMBER, OFFSET, POINTER, ROUTINE, STRUCT, SUBRANGE, UNION, UPPER, Dwarf, Entry)
+    ARRAY, BASE, BITS, BYTE_SIZE, CLASS, COUNT, ENUM, MEMBER, OFFSET, POINTER, ROUTINE, STRUCT,
+    SUBRANGE, UNION, UPPER, Dwarf, Entry)
 
 WRAPPERS = {0x16, 0x26, 0x35, 0x47, 0x37}       # typedef, const, volatile, atomic, restrict
-LONGEST_CHAIN, DEEPEST = 16, 12                 # wrappers around a type; types in types
-MOST_OVERLAPS = 16                              # members that begin at a place or before, of which one is looked for that has it
-LARGEST = 1 << 26                               # bytes of a type, and elements of an array: memory is no larger
+LONGEST_CHAIN = 16  # wrappers around a type
+DEEPEST = 12  # types in types
+# Members that begin at a place or before, of which one is looked for that has it
+MOST_OVERLAPS = 16
+# Bytes of a type, and elements of an array: memory is no larger
+LARGEST = 1 << 26
 MOST_PARTS = 1 << 16                            # arrays or pointers of a type that are listed
-MOST_STEPS = 1 << 20                            # entries of all lists together: forged types could double with each level
-TO_ANY, TO_ALIGNED, TO_CODE = 1, 2, 3           # what a pointer leads to
+# Entries of all lists together: forged types could double with each level
+MOST_STEPS = 1 << 20
+# What a pointer leads to
+TO_ANY = 1
+TO_ALIGNED = 2
+TO_CODE = 3
 Member = Tuple[int, Optional[int], str]         # offset, type, name
 
 
@@ -85,12 +95,14 @@ class Types:
     def structure(self, kind: Optional[int]) -> int:
         """The structure that a type is, or 0."""
         found = self.entry(kind)
-        return found.at if found is not None and found.tag in (STRUCT, CLASS) and self.size(found.at) else 0
+        return (found.at if found is not None and found.tag in (STRUCT, CLASS)
+                and self.size(found.at) else 0)
 
     def pointed(self, kind: Optional[int]) -> int:
         """The structure that a pointer leads to, or 0."""
         found = self.entry(kind)
-        return self.structure(self.dwarf.type_of(found)) if found is not None and found.tag == POINTER else 0
+        return (self.structure(self.dwarf.type_of(found))
+                if found is not None and found.tag == POINTER else 0)
 
     def members(self, kind: Optional[int]) -> list[Member]:
         """A structure's members that are no bit-fields, by their places."""
@@ -98,8 +110,9 @@ class Types:
         if found is None or found.tag not in (STRUCT, CLASS):
             return []
         if found.at not in self.listed:
-            told = [(each.number(OFFSET) or 0, self.dwarf.type_of(each), self.dwarf.name_of(each)) for each in found.below
-                    if each.tag == MEMBER and BITS not in each.told and isinstance(each.told.get(OFFSET, 0), int)]
+            told = [(each.number(OFFSET) or 0, self.dwarf.type_of(each), self.dwarf.name_of(each))
+                    for each in found.below if each.tag == MEMBER and BITS not in each.told
+                    and isinstance(each.told.get(OFFSET, 0), int)]
             self.listed[found.at] = sorted(told, key=lambda member: member[0])
         return self.listed[found.at]
 
@@ -107,7 +120,8 @@ class Types:
         """The member that an offset is in."""
         listed = self.members(kind)
         end = bisect.bisect_left(listed, (offset + 1,))
-        return next((each for each in listed[max(0, end - MOST_OVERLAPS):end][::-1] if offset < each[0] + self.size(each[1])), None)
+        return next((each for each in listed[max(0, end - MOST_OVERLAPS):end][::-1]
+                     if offset < each[0] + self.size(each[1])), None)
 
     def arrays(self, kind: Optional[int], depth: int = 0) -> list[Part]:
         """The arrays that are members of a structure or of structures in it."""
@@ -121,14 +135,16 @@ class Types:
                 if self.is_array(of):
                     inner = [Part(path, offset, offset + self.size(of))]
                 else:
-                    inner = [Part(path + part.path, offset + part.begin, offset + part.end) for part in self.arrays(of, depth + 1)[:self.left]]
+                    inner = [Part(path + part.path, offset + part.begin, offset + part.end)
+                             for part in self.arrays(of, depth + 1)[:self.left]]
                 listed += inner[:self.left]
                 self.left = max(0, self.left - len(inner))
         return self.parts[found.at]
 
     def array_at(self, kind: Optional[int], offset: int, near: int = 0) -> Optional[Part]:
-        """The array member that an offset is in, or that begins so little behind it. None if there is none, or if it may be longer
-        than its type says: one of no or one element, or a short one at the structure's end."""
+        """The array member that an offset is in, or that begins so little behind it. None if there
+        is none, or if it may be longer than its type says: one of no or one element, or a short one
+        at the structure's end."""
         listed = self.arrays(kind)
         inside = [part for part in listed if part.begin <= offset < part.end]
         inside = inside or [part for part in listed if 0 < part.begin - offset <= near]
@@ -138,7 +154,8 @@ class Types:
         whole = end
         if begin < offset:                      # maybe the next array's begin, less an offset
             whole = max([end] + [part.end for part in listed if 0 < part.begin - offset <= ANCHOR])
-        if begin + self.element_size(kind, begin) >= whole or whole >= self.size(kind) - 3 and whole - begin <= TRAILING:
+        if (begin + self.element_size(kind, begin) >= whole
+                or whole >= self.size(kind) - 3 and whole - begin <= TRAILING):
             return None
         return Part(path, begin, whole)
 
@@ -148,14 +165,17 @@ class Types:
             member = self.member_at(kind, offset)
             if member is None:
                 return 1
-            offset, kind = offset - member[0], member[1]
+            offset = offset - member[0]
+            kind = member[1]
             found = self.entry(kind)
             if found is not None and found.tag == ARRAY:
                 return self.size(self.dwarf.type_of(found))
         return 1
 
-    def structures_at(self, kind: Optional[int], begin: int, address: int, name: str) -> Optional[Elements]:
-        """The outermost array of structures that an address is in, of an object of a type that begins there."""
+    def structures_at(self, kind: Optional[int], begin: int, address: int,
+                      name: str) -> Optional[Elements]:
+        """The outermost array of structures that an address is in, of an object of a type that
+        begins there."""
         for _ in range(DEEPEST):
             found = self.entry(kind)
             if found is None:
@@ -164,11 +184,14 @@ class Types:
                 of = self.dwarf.type_of(found)
                 size = self.size(of)
                 structure = self.structure(of)
-                return Elements(begin, begin + self.size(kind), size, structure, name) if size > 4 and structure else None
+                return (Elements(begin, begin + self.size(kind), size, structure, name)
+                        if size > 4 and structure else None)
             member = self.member_at(kind, address - begin)
             if member is None:
                 return None
-            begin, kind, name = begin + member[0], member[1], f"{name}.{member[2]}"
+            begin = begin + member[0]
+            kind = member[1]
+            name = f"{name}.{member[2]}"
         return None
 
     def pointee_at(self, kind: Optional[int], offset: int) -> int:
@@ -188,11 +211,13 @@ class Types:
             member = self.member_at(kind, offset)
             if member is None:
                 return 0
-            offset, kind = offset - member[0], member[1]
+            offset = offset - member[0]
+            kind = member[1]
         return 0
 
     def pointers_in(self, kind: Optional[int], depth: int = 0) -> list[tuple[int, int]]:
-        """(offset, what it leads to) of the pointers in a type, without those of unions and those to void."""
+        """(offset, what it leads to) of the pointers in a type, without those of unions and those
+        to void."""
         found = self.entry(kind)
         if found is None or depth > DEEPEST:
             return []
@@ -211,11 +236,13 @@ class Types:
             elif self.entry(of):                # (into a pointer to void programs put numbers, too)
                 yield 0, TO_ALIGNED if self.is_aligned(of) else TO_ANY
         elif found.tag == ARRAY:
-            inner, size = self.pointers_in(of, depth), self.size(of)
+            inner = self.pointers_in(of, depth)
+            size = self.size(of)
             count = self.size(found.at) // size if size and inner else 0
             yield from ((size * at + offset, to) for at in range(count) for offset, to in inner)
         else:
-            yield from ((begin + offset, to) for begin, kind, _ in self.members(found.at) for offset, to in self.pointers_in(kind, depth))
+            yield from ((begin + offset, to) for begin, kind, _ in self.members(found.at)
+                        for offset, to in self.pointers_in(kind, depth))
 
     def is_aligned(self, kind: Optional[int], depth: int = 0) -> bool:
         """Whether each thing of a type begins at a multiple of four."""
@@ -225,8 +252,10 @@ class Types:
         if found.tag == ARRAY:
             return self.is_aligned(self.dwarf.type_of(found), depth + 1)
         if found.tag in (STRUCT, CLASS):
-            words = [at for at, of, _ in self.members(found.at) if self.is_a(of, POINTER) or self.is_word(of)]
-            return bool(words) and self.size(kind) % 4 == 0 and all(at % 4 == 0 for at in words)    # else it is packed
+            words = [at for at, of, _ in self.members(found.at)
+                     if self.is_a(of, POINTER) or self.is_word(of)]
+            # Else it is packed
+            return bool(words) and self.size(kind) % 4 == 0 and all(at % 4 == 0 for at in words)
         return found.tag == POINTER or self.is_word(found.at)
 
     def is_word(self, kind: Optional[int]) -> bool:
@@ -234,8 +263,10 @@ class Types:
         return found is not None and found.tag in (BASE, ENUM) and found.number(BYTE_SIZE) == 4
 
 
-ANCHOR = 64                 # bytes: so far before a member a compiler puts the place from which it reaches it
-TRAILING = 8                # bytes: an array that short at a structure's end can be a flexible one of old C
+# bytes: so far before a member a compiler puts the place from which it reaches it
+ANCHOR = 64
+# bytes: an array that short at a structure's end can be a flexible one of old C
+TRAILING = 8
 
 
 def elements_of(found: Entry) -> int:

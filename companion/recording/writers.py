@@ -10,13 +10,15 @@ from typing import NamedTuple
 from .rows import KEEPS, LOADS, STORES, Rows
 
 STORE_BITS = 0xffffffff     # of a pair, those that tell its store
-KEPT = 16                   # of so many rows that a search passes one is kept, so that the next one is shorter
+# Of so many rows that a search passes one is kept, so that the next one is shorter
+KEPT = 16
 BESIDE = 64                 # how far from a word another is beside it
 LOADING = bytes(flags & LOADS for flags in range(256))
 
 
 class Stores(NamedTuple):
-    """The stores that gave a load its bytes, latest first, and a mask of the bytes that no row stored."""
+    """The stores that gave a load its bytes, latest first, and a mask of the bytes that no row
+    stored."""
     rows: list[int]
     rest: int
 
@@ -28,23 +30,32 @@ class Writers:
 
     def __init__(self, rows: Rows) -> None:
         self.rows = rows
-        self.first, self.second, self.word = array("I", [0]), array("I", [0]), array("I", [0])
+        self.first = array("I", [0])
+        self.second = array("I", [0])
+        self.word = array("I", [0])
         self.pairs: dict[int, int] = {}
-        self.began: dict[int, int] = {}         # {row of a loop's counter: what wrote the value that it began with}
-        self.kept: dict[int, int] = {}          # {a store that kept its word: the latest one before that changed it}
-        self.lanes: dict[int, tuple[int, ...]] = {}     # {a store: of each byte of its word the latest store up to it}
-        self.stores_of: dict[int, dict[int, int]] = {}      # {a load's code: {a store's code: how many rows}}
+        # {row of a loop's counter: what wrote the value that it began with}
+        self.began: dict[int, int] = {}
+        # {a store that kept its word: the latest one before that changed it}
+        self.kept: dict[int, int] = {}
+        # {a store: of each byte of its word the latest store up to it}
+        self.lanes: dict[int, tuple[int, ...]] = {}
+        # {a load's code: {a store's code: how many rows}}
+        self.stores_of: dict[int, dict[int, int]] = {}
 
     def count_pairs(self) -> None:
         code = self.rows.code
         loads = list(compress(range(len(code)), self.rows.flags.tobytes().translate(LOADING)))
-        pairs, high = array("I", bytes(8 * len(loads))), sys.byteorder == "little"
+        pairs = array("I", bytes(8 * len(loads)))
+        high = sys.byteorder == "little"
         pairs[high::2] = array("I", map(code.__getitem__, loads))
-        pairs[not high::2] = array("I", [code[writer] + 1 if writer else 0 for writer in map(self.word.__getitem__, loads)])
+        pairs[not high::2] = array("I", [code[writer] + 1 if writer else 0
+                                         for writer in map(self.word.__getitem__, loads)])
         self.pairs = Counter(memoryview(pairs).cast("B").cast("Q"))
 
     def givers(self, load: int) -> dict[int, int]:
-        """The codes of the stores from which a load's instruction got its words, each with how often."""
+        """The codes of the stores from which a load's instruction got its words, each with how
+        often."""
         if not self.stores_of:
             for pair, times in self.pairs.items():
                 stores = self.stores_of.setdefault(pair >> 32, {})
@@ -53,10 +64,13 @@ class Writers:
         return self.stores_of.get(self.rows.code[load], {})
 
     def before_counting(self, n: int) -> int:
-        """The row that wrote a row's first register. The rounds of a loop that adds a constant to it are one step: what
-        counts is the value that it began with."""
-        first, code, began = self.first, self.rows.code, self.began
-        source, passed = first[n], array("I")
+        """The row that wrote a row's first register. The rounds of a loop that adds a constant to
+        it are one step: what counts is the value that it began with."""
+        first = self.first
+        code = self.rows.code
+        began = self.began
+        source = first[n]
+        passed = array("I")
         if not self.rows.code_of(n).counts:
             return source
         while source and code[source] == code[n]:
@@ -69,8 +83,11 @@ class Writers:
         return source
 
     def changed_by(self, store: int) -> int:
-        """The row that gave a word its value: a store that kept it is passed. 0 if that is before all rows."""
-        flags, word, kept = self.rows.flags, self.word, self.kept
+        """The row that gave a word its value: a store that kept it is passed. 0 if that is before
+        all rows."""
+        flags = self.rows.flags
+        word = self.word
+        kept = self.kept
         if not flags[store] & KEEPS:
             return store
         passed = array("I")
@@ -82,7 +99,8 @@ class Writers:
         return store
 
     def stores(self, load: int) -> Stores:
-        """An atomic that stored what the word held is passed: what came before it gave the bytes their value."""
+        """An atomic that stored what the word held is passed: what came before it gave the bytes
+        their value."""
         latest = self.changed_by(self.word[load])
         if latest and self.rows.code_of(latest).width == 4:
             return Stores([latest], 0)
@@ -90,7 +108,8 @@ class Writers:
         if latest and not need & ~self.rows.mask(latest):
             return Stores([latest], 0)
         lanes = [row for lane, row in enumerate(self.lanes_of(latest)) if need >> lane & 1]
-        rest = sum(1 << lane for lane, row in enumerate(self.lanes_of(latest)) if need >> lane & 1 and not row)
+        rest = sum(1 << lane for lane, row in enumerate(self.lanes_of(latest))
+                   if need >> lane & 1 and not row)
         return Stores(sorted({row for row in lanes if row}, reverse=True), rest)
 
     def store(self, load: int) -> int:
@@ -98,7 +117,8 @@ class Writers:
         return next(iter(self.stores(load).rows), 0)
 
     def lanes_of(self, store: int) -> tuple[int, ...]:
-        """Of each byte of a word the latest row up to a store that stored it, or 0. Of a long way back some are kept."""
+        """Of each byte of a word the latest row up to a store that stored it, or 0. Of a long way
+        back some are kept."""
         passed: list[int] = []
         while store and store not in self.lanes and not (passed and self.gives_all(passed[-1])):
             passed.append(store)
@@ -122,9 +142,13 @@ class Writers:
         return self.lanes_of(store)[address & 3]
 
     def beside(self, load: int) -> list[int]:
-        """The stores by which the same instruction got other words, of the nearest word on each side of a load's."""
-        rows, codes = self.rows, self.givers(load)
-        place, before, after = rows.access(load).address, (0, 0), (1 << 32, 0)
+        """The stores by which the same instruction got other words, of the nearest word on each
+        side of a load's."""
+        rows = self.rows
+        codes = self.givers(load)
+        place = rows.access(load).address
+        before = (0, 0)
+        after = (1 << 32, 0)
         for n, address in zip(rows.accesses, rows.addresses):
             if rows.code[n] in codes and rows.flags[n] & STORES and n < load:
                 if before[0] <= address < place:

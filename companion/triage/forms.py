@@ -21,17 +21,22 @@ JUNIT = text_kind("a report of triage", re.escape(JUNIT_BEGINS), "</testsuite>\n
 
 
 def json_text(table: Table) -> str:
-    groups, unread = table.sorted(), table.sorted_unread()
+    groups = table.sorted()
+    unread = table.sorted_unread()
     return json.dumps({
-        "answer": "triage", "version": VERSION, "logs": table.logs, "others": table.others, "good": table.good, "causes": len(groups),
+        "answer": "triage", "version": VERSION, "logs": table.logs, "others": table.others,
+        "good": table.good, "causes": len(groups),
         "buckets": [group_answer(group) for group in groups[:LONGEST]],
-        "unread": [{"why": why, "count": len(files), "first": file_answer(files[0])} for why, files in unread[:LONGEST]]}) + "\n"
+        "unread": [{"why": why, "count": len(files), "first": file_answer(files[0])}
+                   for why, files in unread[:LONGEST]]}) + "\n"
 
 
 def group_answer(group: Group) -> dict[str, Any]:
-    return {"line": group.bucket.line(), **group.bucket._asdict(), "count": group.count, "salvaged": group.salvaged,
-            "harts": sorted(group.harts), "first": file_answer(group.first), "last": file_answer(group.last),
-            "example": group.example.name, "elf": group.elf, "memory_error": group.error, "suspect": group.suspect, "command": group.command()}
+    return {"line": group.bucket.line(), **group.bucket._asdict(), "count": group.count,
+            "salvaged": group.salvaged, "harts": sorted(group.harts),
+            "first": file_answer(group.first), "last": file_answer(group.last),
+            "example": group.example.name, "elf": group.elf, "memory_error": group.error,
+            "suspect": group.suspect, "command": group.command()}
 
 
 def file_answer(file: File) -> dict[str, str]:
@@ -39,18 +44,23 @@ def file_answer(file: File) -> dict[str, str]:
 
 
 def junit_text(table: Table) -> str:
-    groups, unread = table.sorted(), table.sorted_unread()
+    groups = table.sorted()
+    unread = table.sorted_unread()
     failed = sum(group.bucket.reason not in EXITS for group in groups)
-    lines = [f'{JUNIT_BEGINS} tests="{len(groups) + len(unread)}" failures="{failed}" errors="{len(unread)}">']
+    lines = [f'{JUNIT_BEGINS} tests="{len(groups) + len(unread)}" failures="{failed}" '
+             f'errors="{len(unread)}">']
     for group in groups:
-        lines.append(f"<testcase classname={quoted(group.bucket.reason)} name={quoted(group.bucket.line())}>")
+        lines.append(f"<testcase classname={quoted(group.bucket.reason)} "
+                     f"name={quoted(group.bucket.line())}>")
         if group.bucket.reason not in EXITS:
             said = "\n".join(filter(None, [group.error, group.suspect, group.command()]))
-            lines.append(f"<failure message={quoted(counted(group.count, 'log'))}>{cleaned(said)}</failure>")
+            lines.append("<failure "
+                         f"message={quoted(counted(group.count, 'log'))}>{cleaned(said)}</failure>")
         lines.append("</testcase>")
     for why, files in unread:
-        lines.append(f"<testcase classname=\"unread\" name={quoted(why)}><error message={quoted(counted(len(files), 'log'))}>"
-                     f"{cleaned(files[0].name)}</error></testcase>")
+        lines.append(
+            f"<testcase classname=\"unread\" name={quoted(why)}><error "
+            f"message={quoted(counted(len(files), 'log'))}>{cleaned(files[0].name)}</error></testcase>")
     return "\n".join(lines + ["</testsuite>", ""])
 
 

@@ -14,13 +14,15 @@ from ..call import streams
 from ..call.children import Group, tie
 from .work import MOST_SECONDS, TOO_LONG, UNREAD, WHY_SECONDS, Answer, Task, Work, limit_memory
 
-# A process that says nothing is ended once its group has taken no processor time for so many seconds by the clock. What takes
-# some is bounded by that time alone, so that a busy machine changes no table.
+# A process that says nothing is ended once its group has taken no processor time for so many
+# seconds by the clock. What takes some is bounded by that time alone, so that a busy machine
+# changes no table.
 PATIENCE = 60.0
 PROGRAM_SHARE = 3           # the programs that a process asks may take so much beside its own time
 LOOK_EACH = 1.0             # seconds between two looks at what the groups took
 TICKS = os.sysconf("SC_CLK_TCK")
-STUCK, ENDED = f"it stood still for {PATIENCE:.0f} s", "the process that read it was ended"
+STUCK = f"it stood still for {PATIENCE:.0f} s"
+ENDED = "the process that read it was ended"
 
 
 class Worker:
@@ -38,7 +40,8 @@ class Worker:
         theirs.close()
 
     def give(self, task: Task) -> None:
-        self.task, self.moved = task, time.monotonic()
+        self.task = task
+        self.moved = time.monotonic()
         self.began = self.used = group_seconds(self.pid)
         self.ours.send(task)
 
@@ -46,7 +49,8 @@ class Worker:
         """Why the task is given up, or nothing: its group took too much time, or none for long."""
         used = group_seconds(self.pid)
         if used != self.used:
-            self.used, self.moved = used, time.monotonic()
+            self.used = used
+            self.moved = time.monotonic()
         seconds = WHY_SECONDS if self.task and self.task.asks_why else MOST_SECONDS
         if used - self.began > seconds * (1 + PROGRAM_SHARE):
             return TOO_LONG
@@ -59,8 +63,9 @@ class Worker:
 
 
 def serve(pipe: Connection, parent: int, signals: set[Any]) -> NoReturn:
-    """The process of a worker. Whatever ends it by a signal lets it clean up, and so does its parent's end. Its group ends what it
-    has started: a signal can come between a start and the moment in which the process is known here."""
+    """The process of a worker. Whatever ends it by a signal lets it clean up, and so does its
+    parent's end. Its group ends what it has started: a signal can come between a start and the
+    moment in which the process is known here."""
     work = Work()
     try:
         streams.on_interrupt(streams.interrupt)
@@ -72,14 +77,16 @@ def serve(pipe: Connection, parent: int, signals: set[Any]) -> NoReturn:
         while True:
             pipe.send(work.answer(pipe.recv()))
     except (EOFError, OSError, KeyboardInterrupt):
-        pass                                    # there is no parent any more, or it doesn't wait for an answer
+        # There is no parent any more, or it doesn't wait for an answer
+        pass
     finally:
         work.close()
         os._exit(0)
 
 
 def group_seconds(leader: int) -> float:
-    """The processor time that a process has taken, with its children: those that have ended, and those that run."""
+    """The processor time that a process has taken, with its children: those that have ended, and
+    those that run."""
     ticks = 0
     with contextlib.suppress(OSError, ValueError, IndexError):
         ticks += sum(times_of(leader))
@@ -90,14 +97,16 @@ def group_seconds(leader: int) -> float:
 
 
 def times_of(process: int) -> list[int]:
-    """The ticks of a process and of its children that have ended. Its name, in brackets, can hold blanks."""
+    """The ticks of a process and of its children that have ended. Its name, in brackets, can hold
+    blanks."""
     with open(f"/proc/{process}/stat", "rb") as file:
         return list(map(int, file.read().rpartition(b")")[2].split()[11:15]))
 
 
 def answers(tasks: Iterable[Task], jobs: int) -> Generator[tuple[Task, Answer], None, None]:
     """The answer to each task, in the order in which they come."""
-    left, workers = deque(tasks), [Worker() for _ in range(jobs)]
+    left = deque(tasks)
+    workers = [Worker() for _ in range(jobs)]
     look_at = time.monotonic() + LOOK_EACH
     try:
         while True:

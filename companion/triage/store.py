@@ -21,22 +21,24 @@ MOST_LOGS = 100000
 
 
 class File(NamedTuple):
-    """A log: when it was changed last, in seconds, its name, and the SHA-256 of its program, or nothing if its head is cut
-    or of an unknown version."""
+    """A log: when it was changed last, in seconds, its name, and the SHA-256 of its program, or
+    nothing if its head is cut or of an unknown version."""
     time: float
     name: str
     program: str
 
 
 class Logs(NamedTuple):
-    """The logs that were found, oldest first; how many other files there are, and whether there are more than MOST_LOGS."""
+    """The logs that were found, oldest first; how many other files there are, and whether there are
+    more than MOST_LOGS."""
     files: list[File]
     others: int
     are_more: bool
 
 
 def files_below(folders: Iterable[str]) -> Iterator[str]:
-    """The names of all files below folders, or of a file itself. A link to a folder isn't followed."""
+    """The names of all files below folders, or of a file itself. A link to a folder isn't
+    followed."""
     for folder in folders:
         if not os.path.exists(folder):
             raise CompanionError(f"missing: {folder}", MISSING)
@@ -46,7 +48,8 @@ def files_below(folders: Iterable[str]) -> Iterator[str]:
             raise CompanionError(f"{folder} is neither a folder nor a file", UNREADABLE)
         for path, inner, names in os.walk(folder):
             inner.sort()
-            yield from (os.path.join(path, name) for name in sorted(names) if os.path.isfile(os.path.join(path, name)))
+            yield from (os.path.join(path, name)
+                        for name in sorted(names) if os.path.isfile(os.path.join(path, name)))
 
 
 def find_logs(folders: Sequence[str]) -> Logs:
@@ -65,12 +68,13 @@ def find_logs(folders: Sequence[str]) -> Logs:
 
 
 def cache_name() -> str:
-    return os.path.join(os.environ.get("XDG_CACHE_HOME") or os.path.expanduser("~/.cache"), "zelkuma", "elfs.json")
+    return os.path.join(os.environ.get("XDG_CACHE_HOME") or os.path.expanduser("~/.cache"),
+                        "zelkuma", "elfs.json")
 
 
 class Store:
-    """The programs below folders. What was found is remembered in a file, which can be deleted. A digest holds as long as
-    the name leads to the same file, with the same size and times."""
+    """The programs below folders. What was found is remembered in a file, which can be deleted. A
+    digest holds as long as the name leads to the same file, with the same size and times."""
 
     def __init__(self, folders: Sequence[str]) -> None:
         self.folders = folders
@@ -102,7 +106,8 @@ class Store:
         """Of a program; nothing of another file."""
         with contextlib.suppress(OSError), open(name, "rb") as file:
             there = os.fstat(file.fileno())
-            about = [there.st_dev, there.st_ino, there.st_size, there.st_mtime_ns, there.st_ctime_ns]
+            about = [there.st_dev, there.st_ino, there.st_size,
+                     there.st_mtime_ns, there.st_ctime_ns]
             known = self.known.get(name)
             if isinstance(known, list) and known[:-1] == about:
                 return str(known[-1])

@@ -34,7 +34,8 @@ class Group:
 
     def command(self) -> str:
         """What tells more of the example."""
-        log, elf = shlex.quote(self.example.name), shlex.quote(self.elf)
+        log = shlex.quote(self.example.name)
+        elf = shlex.quote(self.elf)
         if self.is_whole:
             return f"zelkuma why {log} {elf}"
         return f"zelkuma salvage {log} {log}.salvaged && zelkuma why {log}.salvaged {elf}"
@@ -46,20 +47,25 @@ class Table:
     unread        {why they aren't read: logs}"""
 
     def __init__(self, logs: int, others: int) -> None:
-        self.logs, self.others, self.good = logs, others, 0
+        self.logs = logs
+        self.others = others
+        self.good = 0
         self.groups: dict[tuple[Bucket, str], Group] = {}
         self.unread: dict[str, list[File]] = {}
 
     def add(self, answer: Answer, file: File, elf: str) -> None:
         """A log. They come in the order of their dates."""
         is_whole = answer.state != SALVAGED
-        # A code that programs end with tells nothing of a place: each program's is a cause of its own.
+        # A code that programs end with tells nothing of a place: each program's is a cause of its
+        # own.
         key = answer.bucket, file.program if answer.bucket.reason in EXITS else ""
         group = self.groups.get(key)
         if group is None:
             group = self.groups[key] = Group(answer.bucket, file, file, file, elf, is_whole)
         if is_whole and not group.is_whole:
-            group.example, group.elf, group.is_whole = file, elf, True
+            group.example = file
+            group.elf = elf
+            group.is_whole = True
         group.last = file
         group.count += 1
         group.salvaged += not is_whole
@@ -69,7 +75,8 @@ class Table:
         self.unread.setdefault(why, []).append(file)
 
     def sorted(self) -> list[Group]:
-        return sorted(self.groups.values(), key=lambda group: (-group.count, group.bucket, group.elf))
+        return sorted(self.groups.values(),
+                      key=lambda group: (-group.count, group.bucket, group.elf))
 
     def sorted_unread(self) -> list[tuple[str, list[File]]]:
         return sorted(self.unread.items(), key=lambda item: (-len(item[1]), item[0]))
@@ -79,7 +86,8 @@ class Table:
         left = sum(map(len, self.unread.values()))
         said = [f"{counted(self.logs, 'log')}: {counted(len(self.groups), 'cause')}"]
         said += [f"{number(self.good)} ended well"] * bool(self.good)
-        said += [f"{number(salvaged)} salvaged"] * bool(salvaged) + [f"{number(left)} not read"] * bool(left)
+        said += ([f"{number(salvaged)} salvaged"] * bool(salvaged)
+                 + [f"{number(left)} not read"] * bool(left))
         said += [f"{counted(self.others, 'other file')}"] * bool(self.others)
         return ", ".join(said)
 

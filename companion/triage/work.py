@@ -19,12 +19,17 @@ from ..why.memory_part import MemoryErrors
 from ..why.suspect import DID
 from .bucket import Bucket, bucket_of
 
-# Seconds of processor time for a bucket, which reads a million rows, and for a suspect, which reads 2.6 million into arrays.
-MOST_SECONDS, WHY_SECONDS, MOST_BYTES = 10, 40, 300 << 20
+# Seconds of processor time for a bucket, which reads a million rows, and for a suspect, which reads
+# 2.6 million into arrays.
+MOST_SECONDS = 10
+WHY_SECONDS = 40
+MOST_BYTES = 300 << 20
 TOO_LONG = "it takes too much processor time"
 TOO_LARGE = f"it takes more than {MOST_BYTES >> 20} MB"
 DAMAGED = "it is damaged, and nothing of it could be salvaged"
-READ, SALVAGED, UNREAD = "read", "salvaged", "unread"
+READ = "read"
+SALVAGED = "salvaged"
+UNREAD = "unread"
 T = TypeVar("T")
 
 
@@ -118,7 +123,8 @@ class Work:
             if facts.shown:
                 first = facts.shown[0]
                 source = facts.own_source(first.guilty)
-                words = f"{DID[first.kind]} {facts.own_where(first.guilty)}" + (f": {source}" if source else "")
+                words = (f"{DID[first.kind]} {facts.own_where(first.guilty)}"
+                         + (f": {source}" if source else ""))
             return Answer(READ, words, error=first_error(facts))
 
 

@@ -1,3 +1,4 @@
-"""What is known of a crash or a hang, and what follows from it: `why` and `output`, and the signs of guilt.
+"""What is known of a crash or a hang, and what follows from it: `why` and `output`, and the signs
+of guilt.
 
 May use: call, recording, memory."""

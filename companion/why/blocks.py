@@ -1,8 +1,10 @@
-"""Memory that a function hands out and another takes back, recognised by what calls do, without names.
+"""Memory that a function hands out and another takes back, recognised by what calls do, without
+names.
 
-A *giver* is a function that returns addresses of memory which aren't near its argument (malloc). A *taker* is the
-function that is called with such an address before the giver returns it again (free). A function that returns one
-address again and again with no such call between is a look-up, and no giver."""
+A *giver* is a function that returns addresses of memory which aren't near its argument (malloc). A
+*taker* is the function that is called with such an address before the giver returns it again
+(free). A function that returns one address again and again with no such call between is a look-up,
+and no giver."""
 from __future__ import annotations
 
 import bisect
@@ -14,8 +16,11 @@ from ..recording.instruction import JUMP, RA
 from ..recording.rows import LOADS, STORES
 from ..recording.trace import Trace
 
-LOWEST, NEAR, LARGEST = 4096, 1024, 1 << 16
-MOST_JUMPS = 500000         # so many of the latest calls and returns are looked at, which bounds the memory
+LOWEST = 4096
+NEAR = 1024
+LARGEST = 1 << 16
+# So many of the latest calls and returns are looked at, which bounds the memory
+MOST_JUMPS = 500000
 STEPS = 600                 # so many rows are looked at for the block that a pointer came from
 
 
@@ -24,7 +29,10 @@ class Block:
     __slots__ = ("call", "back", "giver", "address")
 
     def __init__(self, call: int, back: int, giver: int, address: int) -> None:
-        self.call, self.back, self.giver, self.address = call, back, giver, address
+        self.call = call
+        self.back = back
+        self.giver = giver
+        self.address = address
 
 
 class Given(NamedTuple):
@@ -44,7 +52,8 @@ class Blocks:
     arguments    {address: the calls with it, in order}
     wrote        {row: the blocks whose address it wrote into a0}
     taker        {giver: taker}
-    own          the functions that hand out memory and take it back, and not those that call them to do it"""
+    own          the functions that hand out memory and take it back, and not those that call them
+                 to do it"""
 
     def __init__(self, trace: Trace, elf: Elf) -> None:
         self.rows, self.writers, self.calls = trace
@@ -57,8 +66,10 @@ class Blocks:
         found = self.matched()
         givers = self.givers(found)
         self.collect(found, givers)
-        # What a function that takes memory back leaves in its result's register is no memory that it gives out.
-        spread = Counter(giver for blocks in self.by_address.values() for giver in {block.giver for block in blocks})
+        # What a function that takes memory back leaves in its result's register is no memory that
+        # it gives out.
+        spread = Counter(giver for blocks in self.by_address.values()
+                         for giver in {block.giver for block in blocks})
         untrue = {taker for giver, taker in self.taker.items() if spread[giver] > spread[taker] > 0}
         if untrue:
             givers -= untrue
@@ -69,7 +80,9 @@ class Blocks:
 
     def collect(self, found: list[Given], givers: set[int]) -> None:
         """The blocks of these givers, and the calls with them."""
-        self.by_address, self.arguments, self.wrote = {}, {}, {}
+        self.by_address = {}
+        self.arguments = {}
+        self.wrote = {}
         for given in found:
             if given.block.giver in givers:
                 self.add(given.block)
@@ -78,7 +91,8 @@ class Blocks:
         self.taker = self.takers()
 
     def add(self, block: Block) -> None:
-        """A block replaces those that were given out within its call at the same address, as malloc's are in calloc."""
+        """A block replaces those that were given out within its call at the same address, as
+        malloc's are in calloc."""
         there = self.by_address.setdefault(block.address, [])
         while there and there[-1].call > block.call:
             there.pop()
@@ -86,7 +100,8 @@ class Blocks:
 
     def matched(self) -> list[Given]:
         """The blocks of all calls that return an address of data."""
-        calls, found = self.calls, []
+        calls = self.calls
+        found = []
         for call, back in zip(calls.paired.calls, calls.paired.backs):
             address = calls.a0[back]
             if call >= self.first and self.is_given(address, calls.a0[call]):
@@ -102,8 +117,8 @@ class Blocks:
 
     def is_given(self, address: int, argument: int) -> bool:
         part = self.elf.part_of(address)
-        return (address % 4 == 0 and LOWEST <= address < self.rows.log.memory and not (part and not part.flags & WRITABLE)
-                and abs(address - argument) >= NEAR)
+        return (address % 4 == 0 and LOWEST <= address < self.rows.log.memory
+                and not (part and not part.flags & WRITABLE) and abs(address - argument) >= NEAR)
 
     def givers(self, found: list[Given]) -> set[int]:
         """The functions whose addresses come again only after a call with them."""
@@ -128,19 +143,22 @@ class Blocks:
         return {giver for giver, _ in latest if alone[giver] <= again[giver]}
 
     def collect_arguments(self) -> None:
-        rows, calls = self.rows, self.calls
+        rows = self.rows
+        calls = self.calls
         for at in range(self.first, len(calls.jumps)):
             n = calls.jumps[at]
             if calls.a0[at] in self.by_address and rows.code_of(n).rd == RA:
                 self.arguments.setdefault(calls.a0[at], []).append(CallWith(n, self.entry(n)))
         for tail in calls.tails:
             if tail.a0 in self.by_address:
-                self.arguments.setdefault(tail.a0, []).append(CallWith(tail.row, self.entry(tail.row)))
+                self.arguments.setdefault(tail.a0,
+                                          []).append(CallWith(tail.row, self.entry(tail.row)))
         for made in self.arguments.values():
             made.sort()
 
     def takers(self) -> dict[int, int]:
-        """Of each giver the function that is called most often between two times that it gives an address out."""
+        """Of each giver the function that is called most often between two times that it gives an
+        address out."""
         votes: dict[tuple[int, int], int] = {}
         for address, blocks in self.by_address.items():
             for first, second in zip(blocks, blocks[1:]):
@@ -154,8 +172,9 @@ class Blocks:
         return found
 
     def allocators(self, blocks: list[Block]) -> set[int]:
-        """The innermost functions that returned a block and whose blocks somebody takes back, and of each the function that
-        got an address last before it was given out again. A function that only returns addresses may return its caller's."""
+        """The innermost functions that returned a block and whose blocks somebody takes back, and
+        of each the function that got an address last before it was given out again. A function that
+        only returns addresses may return its caller's."""
         latest: dict[int, Block] = {}
         last: Counter[tuple[int, int]] = Counter()
         for block in blocks:                    # in the order of their returns: inner calls first
@@ -166,28 +185,34 @@ class Blocks:
                 between = self.calls_between(block.address, before.back, block.call)
                 last.update((block.giver, call.function) for call in between[-1:])
             latest[block.address] = block
-        return {function for giver, _ in last for function in
-                (giver, max((times, taker) for (one, taker), times in last.items() if one == giver)[1])}
+        return {function for giver, _ in last
+                for function in (giver, max((times, taker) for (one, taker), times in last.items()
+                                            if one == giver)[1])}
 
     def is_own(self, n: int) -> bool:
         """Whether a row is an allocator's own."""
-        tree, node = self.calls.tree, self.calls.node_of(n)
+        tree = self.calls.tree
+        node = self.calls.node_of(n)
         passed: list[int] = []
         while node and node not in self.own_nodes:
             passed.append(node)
             node = tree.parent[node]
         for each in reversed(passed):
-            self.own_nodes[each] = self.leads.get(tree.call_pc[each]) in self.own or self.own_nodes.get(tree.parent[each], False)
+            self.own_nodes[each] = (self.leads.get(tree.call_pc[each]) in self.own
+                                    or self.own_nodes.get(tree.parent[each], False))
         return self.own_nodes.get(self.calls.node_of(n), False)
 
     def behind(self, row: int, address: int) -> Optional[Block]:
-        """The block that a pointer came from, by the row that wrote the pointer and the address that it leads to."""
-        seen, todo = {row}, [row]
+        """The block that a pointer came from, by the row that wrote the pointer and the address
+        that it leads to."""
+        seen = {row}
+        todo = [row]
         best: Optional[Block] = None
         while todo and len(seen) < STEPS:
             n = todo.pop()
             for block in self.wrote.get(n, ()):
-                if 0 <= address - block.address < LARGEST and (best is None or self.rank(block) > self.rank(best)):
+                if (0 <= address - block.address < LARGEST
+                        and (best is None or self.rank(block) > self.rank(best))):
                     best = block
             if best is not None and n < best.call:
                 continue
@@ -198,7 +223,8 @@ class Blocks:
         return best
 
     def rank(self, block: Block) -> tuple[bool, int]:
-        """Of the blocks behind a pointer the latest counts, of those that somebody takes back if there are any."""
+        """Of the blocks behind a pointer the latest counts, of those that somebody takes back if
+        there are any."""
         return block.giver in self.taker, block.call
 
     def twice(self) -> list[tuple[int, int]]:
@@ -206,13 +232,15 @@ class Blocks:
         found = []
         for address, blocks in self.by_address.items():
             for block, following in zip(blocks, blocks[1:] + [None]):
-                rows = self.given_back(block, block.back, following.call if following else self.rows.size + 1)
+                rows = self.given_back(block, block.back,
+                                       following.call if following else self.rows.size + 1)
                 found += list(zip(rows, rows[1:]))
         return sorted(found)
 
     def sources(self, n: int) -> list[int]:
         """The rows that a row's value comes from."""
-        rows, writers = self.rows, self.writers
+        rows = self.rows
+        writers = self.writers
         if rows.flags[n] & LOADS:
             return writers.stores(n).rows
         if rows.flags[n] & STORES:
@@ -222,7 +250,8 @@ class Blocks:
     def given_back(self, block: Block, low: int, high: int) -> list[int]:
         """The calls of the taker with a block's address between two rows."""
         taker = self.taker.get(block.giver)
-        return [n for n, function in self.calls_between(block.address, low, high) if function == taker]
+        return [n for n, function in self.calls_between(block.address, low, high)
+                if function == taker]
 
     def calls_between(self, address: int, low: int, high: int) -> Sequence[CallWith]:
         """The calls with an address between two rows."""

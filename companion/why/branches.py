@@ -1,4 +1,5 @@
-"""Branches as suspects: the one before which a value was chosen, and the one that would have ended a loop."""
+"""Branches as suspects: the one before which a value was chosen, and the one that would have ended
+a loop."""
 from __future__ import annotations
 
 from collections import Counter
@@ -11,12 +12,17 @@ from .loops import codes_of, operands_of, pairs_of, times_of
 from .lost import cut_behind
 from .suspect import Extra, Suspect
 
-EQUAL, CUT = 10, 8           # what these signs are worth
-USUAL, USUAL_ROWS = 2, 20    # what the usual way of a branch costs more, and how often it has to have come
+# What these signs are worth
+EQUAL = 10
+CUT = 8
+# What the usual way of a branch costs more, and how often it has to have come
+USUAL = 2
+USUAL_ROWS = 20
 ENTRY = 12                  # what a branch of the code that sets up a hart costs more
 MOST = 40                   # branches that are looked at
 ORDERS = "blt", "bge"
-BEFORE = {"control": "before", "kept": "so this kept its value in", "spared": "so a word beside what it compared kept its value in",
+BEFORE = {"control": "before", "kept": "so this kept its value in",
+          "spared": "so a word beside what it compared kept its value in",
           "awaited": "so this goes on waiting in"}
 
 
@@ -24,7 +30,8 @@ def branch_suspects(facts: Facts, history: History, ways: Ways) -> list[Suspect]
     """The nearest branches that decided of the history's rows, one of each source line."""
     found: dict[str, Suspect] = {}
     for row in sorted(history.branches, key=lambda n: (history.branches[n].cost, -n))[:MOST]:
-        line, decided = facts.line(row), history.branches[row]
+        line = facts.line(row)
+        decided = history.branches[row]
         if row in facts.starts:
             continue
         if line in found:
@@ -45,7 +52,9 @@ def branch_suspects(facts: Facts, history: History, ways: Ways) -> list[Suspect]
 
 
 def judge_values(facts: Facts, suspect: Suspect) -> None:
-    rows, row, writers = facts.rows, suspect.guilty, facts.writers
+    rows = facts.rows
+    row = suspect.guilty
+    writers = facts.writers
     one = rows.result_of(writers.first[row]) if rows.code_of(row).rs1 else 0
     other = rows.result_of(writers.second[row]) if rows.code_of(row).rs2 else 0
     if one is not None and other is not None:
@@ -54,7 +63,8 @@ def judge_values(facts: Facts, suspect: Suspect) -> None:
             suspect.sign(EQUAL, words + ", which are the same")
         else:
             suspect.why.append(words)
-    cut = cut_behind(facts.trace, writers.first[row]) or cut_behind(facts.trace, writers.second[row])
+    cut = cut_behind(facts.trace, writers.first[row]) or cut_behind(facts.trace,
+                                                                    writers.second[row])
     if cut:
         suspect.sign(CUT, "one of them comes from a part of a value")
         suspect.extra.append(Extra(cut.words + " in", cut.row))
@@ -63,14 +73,17 @@ def judge_values(facts: Facts, suspect: Suspect) -> None:
 def add_stored(facts: Facts, suspect: Suspect) -> None:
     """Tells who stored a word that a branch compared as it was loaded, if it was another line."""
     for operand in operands_of(facts.trace, suspect.guilty):
-        if operand.store and operand.load == operand.row and not facts.rows.is_spill(operand.load, operand.store):
-            told = {facts.line(n) for n in [suspect.guilty] + [extra.row for extra in suspect.extra]}
+        if (operand.store and operand.load == operand.row
+                and not facts.rows.is_spill(operand.load, operand.store)):
+            told = {facts.line(n)
+                    for n in [suspect.guilty] + [extra.row for extra in suspect.extra]}
             if facts.line(operand.store) not in told:
                 suspect.extra.append(Extra("a value that it compared was stored in", operand.store))
 
 
 class Way(NamedTuple):
-    """How often a branch went as it did in a row, how often it ran, and whether that way leads back."""
+    """How often a branch went as it did in a row, how often it ran, and whether that way leads
+    back."""
     times: int
     all_times: int
     is_back: bool
@@ -80,7 +93,8 @@ def judge_way(suspect: Suspect, way: Way) -> None:
     if way.is_back:
         suspect.shown = bool(suspect.extra)
     elif way.all_times >= USUAL_ROWS and way.times * 10 >= way.all_times * 9:
-        suspect.sign(-USUAL, f"it went this way {number(way.times)} of {number(way.all_times)} times")
+        suspect.sign(-USUAL,
+                     f"it went this way {number(way.times)} of {number(way.all_times)} times")
 
 
 class Ways:
@@ -96,8 +110,10 @@ class Ways:
         self.all_times = times_of(self.times)
 
     def of(self, row: int) -> Way:
-        rows, n = self.rows, self.rows.following(row)
+        rows = self.rows
+        n = self.rows.following(row)
         if not n:
             return Way(0, 0, False)
         at = rows.code[row]
-        return Way(self.times[at, rows.code[n]], self.all_times[at], rows.code_of(n).pc < rows.code_of(row).pc)
+        return Way(self.times[at, rows.code[n]], self.all_times[at],
+                   rows.code_of(n).pc < rows.code_of(row).pc)

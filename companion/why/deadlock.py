@@ -1,4 +1,5 @@
-"""Harts that wait for locks which others hold, at the end of a run that hangs; and whether they wait in a circle."""
+"""Harts that wait for locks which others hold, at the end of a run that hangs; and whether they
+wait in a circle."""
 from __future__ import annotations
 
 import re
@@ -13,21 +14,23 @@ from .locks import name_of
 from .loops import Loop
 from .suspect import Extra, Suspect
 
-CIRCLE, MOST_TIMES = 12, 1000           # what a circle is worth, less if a lock was taken often in the same call
+# What a circle is worth, less if a lock was taken often in the same call
+CIRCLE = 12
+MOST_TIMES = 1000
 EMPTY = re.compile(r" \| load \w{8}=00000000 \| store ")
 
 
 class Taken(NamedTuple):
-    """How a lock was taken that is still held: by which hart, its calls, and the row, or 0 if that isn't among those that
-    were read."""
+    """How a lock was taken that is still held: by which hart, its calls, and the row, or 0 if that
+    isn't among those that were read."""
     hart: int
     frames: Sequence[StackFrame]
     row: int
 
 
 class Wait(NamedTuple):
-    """A hart whose loop would end once a lock is free, the row that looked at it last, and how it was taken. `is_kept`: that
-    was before the loop in which the holder is."""
+    """A hart whose loop would end once a lock is free, the row that looked at it last, and how it
+    was taken. `is_kept`: that was before the loop in which the holder is."""
     hart: int
     lock: int
     row: int
@@ -64,8 +67,8 @@ def taken_in(facts: Facts, row: int) -> Optional[Taken]:
 
 
 def taken_before(facts: Facts, load: int) -> Optional[Taken]:
-    """What an atomic set from 0 before the rows that were read, and nothing set since. A store-conditional's row doesn't
-    tell what was there."""
+    """What an atomic set from 0 before the rows that were read, and nothing set since. A
+    store-conditional's row doesn't tell what was there."""
     stored = facts.earlier_of(load) if load else None
     if not stored or not EMPTY.search(stored.row):
         return None
@@ -82,8 +85,9 @@ def last_try(facts: Facts, hart: int, lock: int) -> int:
 
 
 def in_circle(waits: Sequence[Wait]) -> list[Wait]:
-    """Those that wait for each other, in their order from the lowest hart on. One that waits for itself is a
-    circle, too. A holder that took the lock in its own loop gives it back there: that is no circle."""
+    """Those that wait for each other, in their order from the lowest hart on. One that waits for
+    itself is a circle, too. A holder that took the lock in its own loop gives it back there: that
+    is no circle."""
     by_hart = {wait.hart: wait for wait in waits if wait.is_kept}
     for first in by_hart.values():
         circle: list[Wait] = []
@@ -97,8 +101,8 @@ def in_circle(waits: Sequence[Wait]) -> list[Wait]:
 
 
 def deadlock_suspects(facts: Facts) -> list[Suspect]:
-    """Harts that wait for each other's locks: first the one that waits where locks were taken least often, since its order
-    is the odd one."""
+    """Harts that wait for each other's locks: first the one that waits where locks were taken least
+    often, since its order is the odd one."""
     if not facts.hangs or len(facts.rows.last) < 2:
         return []
     times = Counter(facts.calls.node_of(each.row) for each in facts.changes if each.is_set)
@@ -107,8 +111,8 @@ def deadlock_suspects(facts: Facts) -> list[Suspect]:
     for wait in circle if len(circle) > 1 else ():
         taken = times[facts.calls.node_of(wait.row)]
         suspect = Suspect("order", wait.row, wait.row, 0)
-        suspect.sign(CIRCLE - min(taken, MOST_TIMES) / MOST_TIMES,
-                     f"the harts wait for each other's locks; here a lock was taken {number(taken)} times")
+        suspect.sign(CIRCLE - min(taken, MOST_TIMES) / MOST_TIMES, "the harts wait for each "
+                     f"other's locks; here a lock was taken {number(taken)} times")
         held = next(other.taken.row for other in circle if other.taken.hart == wait.hart)
         suspect.extra += [Extra("it holds the lock that it took in", held)] * bool(held)
         found.append(suspect)
@@ -121,19 +125,23 @@ def deadlock_lines(facts: Facts) -> list[str]:
         return []
     waits = waits_of(facts, facts.changes)
     circle = in_circle(waits)
-    said = ["Deadlock: " + ", ".join(wait_words(facts, wait) for wait in circle) + "."] * bool(circle)
+    said = ["Deadlock: " + ", ".join(wait_words(facts, wait)
+                                     for wait in circle) + "."] * bool(circle)
     return said + [wait_words(facts, wait) + "." for wait in waits if wait not in circle]
 
 
 def wait_words(facts: Facts, wait: Wait) -> str:
-    """A hart, its place, the lock, who holds it, and since what place. If both places are in one function, that takes locks:
-    what called it is told."""
-    holder, frames = wait.taken.hart, facts.stack(wait.row, 3).frames
-    here, there = place_words(frames, wait.taken.frames), place_words(wait.taken.frames, frames)
+    """A hart, its place, the lock, who holds it, and since what place. If both places are in one
+    function, that takes locks: what called it is told."""
+    holder = wait.taken.hart
+    frames = facts.stack(wait.row, 3).frames
+    here = place_words(frames, wait.taken.frames)
+    there = place_words(wait.taken.frames, frames)
     end = facts.log.ends.get(holder)
     ended = f", which ended ({end.reason})" if end and end.reason != "limit" else ""
     owner = "which it holds itself" if holder == wait.hart else f"of hart {holder}"
-    return f"hart {wait.hart} ({here}) waits for {name_of(facts, wait.lock)} {owner} ({there}){ended}"
+    return (f"hart {wait.hart} ({here}) waits for {name_of(facts, wait.lock)} "
+            f"{owner} ({there}){ended}")
 
 
 def place_words(frames: Sequence[StackFrame], others: Sequence[StackFrame]) -> str:

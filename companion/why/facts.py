@@ -19,13 +19,16 @@ from .lock_words import Setting, setting
 from .loops import Loop
 
 LAST_ROWS = 12
-LOOP_ROWS, MOST_LOADS = 300, 12         # what a hart did last, if it didn't fault
+# What a hart did last, if it didn't fault
+LOOP_ROWS = 300
+MOST_LOADS = 12
 MOST_EXITS = 12
 MOST_LIBRARY_CALLS = 12     # over a row: a library's printf has eight of its own
 
 
 class Byte(NamedTuple):
-    """A byte of the guest's output: of which of its writes, and which of that. Both count from 0."""
+    """A byte of the guest's output: of which of its writes, and which of that. Both count from
+    0."""
     write: int
     place: int
 
@@ -38,7 +41,8 @@ class Written(NamedTuple):
 
 
 class StackFrame(NamedTuple):
-    """A call: its address, the function, FILE:LINE or nothing, and whether it is inlined in the next one."""
+    """A call: its address, the function, FILE:LINE or nothing, and whether it is inlined in the
+    next one."""
     address: int
     function: str
     place: str
@@ -50,7 +54,8 @@ class StackFrame(NamedTuple):
 
 
 class Stack(NamedTuple):
-    """Calls, innermost first; how many are left out before the last one; whether earlier calls are unknown."""
+    """Calls, innermost first; how many are left out before the last one; whether earlier calls are
+    unknown."""
     frames: list[StackFrame]
     left_out: int
     is_cut: bool
@@ -60,19 +65,26 @@ class Facts:
     """log, elf, trace
     named    the ELF with names (--names), else elf
     places   functions and lines, until the program is closed
-    start    the row that is asked of: the fault's, what a byte of the output came from, or an exit of a loop
+    start    the row that is asked of: the fault's, what a byte of the output came from, or an exit
+             of a loop
     starts   it, and others that the history begins with
     loops    of the harts that came to their limit; hangs: whether `starts` are of such a loop
-    output   the byte of the output that is asked of; stored: the row that stored it, or else wrote it
+    output   the byte of the output that is asked of; stored: the row that stored it, or else wrote
+             it
     faulted  whether `start` is the fault
     last     the last rows up to `start`
     notes    lines for the end of a report
     earlier  the stores before the rows that were read, of those that were looked for"""
 
-    def __init__(self, program: Program, log: Log, trace: Trace, row: str = "", output: Written | None = None) -> None:
+    def __init__(self, program: Program, log: Log, trace: Trace, row: str = "",
+                 output: Written | None = None) -> None:
         self.output = output
-        self.log, self.trace, self.asked = log, trace, row
-        self.elf, self.named, self.places = program.elf, program.named, program.places
+        self.log = log
+        self.trace = trace
+        self.asked = row
+        self.elf = program.elf
+        self.named = program.named
+        self.places = program.places
         self.rows, self.writers, self.calls = trace
         self.owns: dict[int, StackFrame | None] = {}
         self.members = Members(self.named)
@@ -80,11 +92,13 @@ class Facts:
         lack = lack_of(self.named, self.places)
         self.notes = [lack] if lack else []
         if not trace.rows.last:
-            raise CompanionError(f"the log holds no row: the records of a hart's last interval passed its --log-size "
-                                 f"{log.size}; --format 2 keeps the interval of a crash", NO_INTERVAL)
+            raise CompanionError("the log holds no row: the records of a hart's last interval "
+                                 f"passed its --log-size {log.size}; "
+                                 "--format 2 keeps the interval of a crash", NO_INTERVAL)
         asks_of_end = not row and not output and not trace.rows.fault
         self.loops = [Loop(trace, hart) for hart in limited(log, trace)] if asks_of_end else []
-        exits = [item.row for loop in self.loops for item in loop.exits[:MOST_EXITS] if item.leads_out]
+        exits = [item.row for loop in self.loops
+                 for item in loop.exits[:MOST_EXITS] if item.leads_out]
         self.stored = writer_of(trace, output) if output else 0
         self.starts = [self.stored] if output else exits or find_starts(log, trace, row)
         self.hangs = bool(self.loops)
@@ -131,10 +145,12 @@ class Facts:
         return self.earlier.get(Asked(word, self.writers.stores(load).rest))
 
     def own(self, n: int) -> StackFrame | None:
-        """The innermost frame over a row whose source is here, or None. What a library did is told as the call of it."""
+        """The innermost frame over a row whose source is here, or None. What a library did is told
+        as the call of it."""
         if n not in self.owns:
             frames = self.stack(n, MOST_LIBRARY_CALLS).frames
-            self.owns[n] = next((frame for frame in frames if self.places.source(frame.address)), None)
+            self.owns[n] = next((frame for frame in frames if self.places.source(frame.address)),
+                                None)
         return self.owns[n]
 
     def own_pc(self, n: int) -> int:
@@ -167,7 +183,8 @@ class Facts:
 
     @property
     def is_part(self) -> bool:
-        """Whether the log has rows before those that are here: their records weren't read, or they weren't kept."""
+        """Whether the log has rows before those that are here: their records weren't read, or they
+        weren't kept."""
         return bool(self.log.unread or self.rows.passed)
 
     @property
@@ -176,7 +193,8 @@ class Facts:
         return "no row that was read" if self.is_part else "no row of the log"
 
     def ends(self) -> str:
-        return ", ".join(f"hart {hart} {end.reason} {end.value:08x}" for hart, end in sorted(self.log.ends.items()))
+        return ", ".join(f"hart {hart} {end.reason} {end.value:08x}"
+                         for hart, end in sorted(self.log.ends.items()))
 
 
 def find_starts(log: Log, trace: Trace, row: str) -> list[int]:
@@ -192,7 +210,8 @@ def find_starts(log: Log, trace: Trace, row: str) -> list[int]:
     loads: list[int] = []
     seen: set[int] = set()
     for n in reversed(trace.rows.last_rows(trace.rows.last[harts[0]], LOOP_ROWS)):
-        if trace.rows.flags[n] & LOADS and trace.rows.code[n] not in seen and len(loads) < MOST_LOADS:
+        if (trace.rows.flags[n] & LOADS and trace.rows.code[n] not in seen
+                and len(loads) < MOST_LOADS):
             seen.add(trace.rows.code[n])
             loads.append(n)
     return loads or [trace.rows.last[harts[0]]]
@@ -200,15 +219,16 @@ def find_starts(log: Log, trace: Trace, row: str) -> list[int]:
 
 def limited(log: Log, trace: Trace) -> list[int]:
     """The harts that came to their limit."""
-    return [hart for hart, end in sorted(log.ends.items()) if end.reason == "limit" and hart in trace.rows.last]
+    return [hart for hart, end in sorted(log.ends.items())
+            if end.reason == "limit" and hart in trace.rows.last]
 
 
 def written(log: Log, byte: Byte) -> Written:
     """The write that took a byte, by the log of the whole run."""
     writes = [call for call in log.system_calls() if call.kind == WRITE_CALL]
     if byte.write >= len(writes) or byte.place >= writes[byte.write].size:
-        raise CompanionError(f"the log holds no byte {byte.place} of a write {byte.write}: `zelkuma output` lists them",
-                             NO_INTERVAL)
+        raise CompanionError(f"the log holds no byte {byte.place} of a write {byte.write}: "
+                             "`zelkuma output` lists them", NO_INTERVAL)
     return Written(byte.write, byte.place, writes[byte.write])
 
 

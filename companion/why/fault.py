@@ -8,10 +8,12 @@ from ..recording.rows import Fault, Rows
 
 # Words that other processors know, and registers that words with this opcode access.
 PRIVILEGED = {0x30200073: "mret", 0x10200073: "sret", 0x10500073: "wfi"}
-CSRS = {0xc00: "cycle (as rdcycle does)", 0xc01: "time (as rdtime does)", 0xc02: "instret (as rdinstret does)",
-        0xc80: "cycleh (as rdcycleh does)", 0xc81: "timeh (as rdtimeh does)", 0xc82: "instreth (as rdinstreth does)",
-        0xf14: "mhartid", 0x300: "mstatus", 0x301: "misa", 0x304: "mie", 0x305: "mtvec", 0x340: "mscratch", 0x341: "mepc",
-        0x342: "mcause", 0x343: "mtval", 0x344: "mip", 0x001: "fflags", 0x002: "frm", 0x003: "fcsr"}
+CSRS = {0xc00: "cycle (as rdcycle does)", 0xc01: "time (as rdtime does)",
+        0xc02: "instret (as rdinstret does)", 0xc80: "cycleh (as rdcycleh does)",
+        0xc81: "timeh (as rdtimeh does)", 0xc82: "instreth (as rdinstreth does)", 0xf14: "mhartid",
+        0x300: "mstatus", 0x301: "misa", 0x304: "mie", 0x305: "mtvec", 0x340: "mscratch",
+        0x341: "mepc", 0x342: "mcause", 0x343: "mtval", 0x344: "mip", 0x001: "fflags",
+        0x002: "frm", 0x003: "fcsr"}
 OP_FLOAT = 0x07, 0x27, 0x43, 0x47, 0x4b, 0x4f, 0x53
 FENCE_I = 0x100f            # its opcode and kind
 PAGE = 4096                 # nothing below is mapped
@@ -19,7 +21,8 @@ VERBS = {"Load": "loads from", "Store": "stores to", "Fetch": "jumps to", "Targe
 
 
 def fault_words(rows: Rows, fault: Fault, elf: Elf) -> list[str]:
-    value, ins = fault.value, fault.instruction
+    value = fault.value
+    ins = fault.instruction
     said = [reason(rows, elf, fault)]
     if fault.name in ("Breakpoint", "Illegal"):
         return said
@@ -29,13 +32,17 @@ def fault_words(rows: Rows, fault: Fault, elf: Elf) -> list[str]:
         said.append(f"As text {text:08x} is '{as_text(text)}': text was taken for a pointer.")
     if ins.rs1 and ins.kind in (LOAD, STORE, AMO):
         offset = (value - base + (1 << 31)) % (1 << 32) - (1 << 31)
-        said.append(f"The address is {NAMES[ins.rs1]} = {base:08x}{f' {offset:+d}' if offset else ''}.")
+        said.append(f"The address is {NAMES[ins.rs1]} = "
+                    f"{base:08x}{f' {offset:+d}' if offset else ''}.")
     return said + jump_words(rows, fault)
 
 
 def reason(rows: Rows, elf: Elf, fault: Fault) -> str:
-    name, value, ins = fault.name, fault.value, fault.instruction
-    verb = "updates" if ins.kind == AMO else next((word for start, word in VERBS.items() if name.startswith(start)), "")
+    name = fault.name
+    value = fault.value
+    ins = fault.instruction
+    verb = ("updates" if ins.kind == AMO
+            else next((word for start, word in VERBS.items() if name.startswith(start)), ""))
     if name == "Breakpoint":
         return "It ran into an ebreak (a trap or abort)."
     if name == "Illegal":
@@ -43,7 +50,8 @@ def reason(rows: Rows, elf: Elf, fault: Fault) -> str:
     if name == "StoreReadOnly":
         return f"It stores to {value:08x}, which is in a read-only segment{near(elf, value)}."
     if name.endswith("Misaligned"):
-        return f"It {verb} {value:08x}, which is no multiple of {4 if name[0] == 'T' else ins.width}."
+        return (f"It {verb} {value:08x}, "
+                f"which is no multiple of {4 if name[0] == 'T' else ins.width}.")
     if value < PAGE:
         what = "a null pointer" if value == 0 else f"a null pointer and an offset of {value}"
         return f"It {verb} {value:08x}: {what} (nothing below {PAGE:08x} is mapped)."
@@ -58,12 +66,14 @@ def illegal_words(word: int) -> str:
         return f": it is {PRIVILEGED[word]}, which is of privileged code"
     if word & 127 == OP_SYSTEM and word >> 12 & 3:
         csr = word >> 20
-        return f": it accesses {CSRS.get(csr, f'register {csr:03x}')}, a control and status register"
+        return (f": it accesses {CSRS.get(csr, f'register {csr:03x}')}, "
+                "a control and status register")
     if word & 3 != 3 and word:
         return ": it may be a compressed instruction, which -march=rv32ima doesn't make"
     if word & 0x707f == FENCE_I:
         return ": it is fence.i, of Zifencei: code can't be written here, so leave it out"
-    return ": it is of floating point, which -march=rv32ima doesn't make" if word & 127 in OP_FLOAT else ""
+    return (": it is of floating point, which -march=rv32ima doesn't make" if word & 127 in OP_FLOAT
+            else "")
 
 
 def near(elf: Elf, address: int) -> str:

@@ -1,6 +1,7 @@
 """The row of the program's own code that a byte of formatted output came from.
 
-A library's printf takes values apart into letters. Its rows tell nothing of the program: what it was given does."""
+A library's printf takes values apart into letters. Its rows tell nothing of the program: what it
+was given does."""
 from __future__ import annotations
 
 from ..recording.instruction import ALU
@@ -11,7 +12,8 @@ MOST_ROWS = 20000           # are looked at
 
 
 def begin_at_argument(facts: Facts) -> None:
-    """Lets a question of a byte begin at the value that a library got, if the byte came from there."""
+    """Lets a question of a byte begin at the value that a library got, if the byte came from
+    there."""
     facts.places.fetch({ins.pc for ins in facts.rows.codes})
     row = given(facts, [facts.start])
     if row:
@@ -19,9 +21,13 @@ def begin_at_argument(facts: Facts) -> None:
 
 
 def given(facts: Facts, of: list[int]) -> int:
-    """Behind the values of these rows, or else behind the addresses of what no row stored: the nearest row whose source is
-    here, after some whose source isn't. 0 if there are none."""
-    rows, writers, todo, seen, addresses = facts.rows, facts.writers, [(n, False) for n in of], {0}, []
+    """Behind the values of these rows, or else behind the addresses of what no row stored: the
+    nearest row whose source is here, after some whose source isn't. 0 if there are none."""
+    rows = facts.rows
+    writers = facts.writers
+    todo = [(n, False) for n in of]
+    seen = {0}
+    addresses = []
     for n, is_past in todo:
         if n in seen or len(seen) > MOST_ROWS:
             continue

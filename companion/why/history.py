@@ -1,7 +1,8 @@
 """The rows behind a row: the values that it used, the rows that stored them, and so on.
 
-A search by cost. A step along a value costs 1. A step along an address costs 12: else the walk through a list or an
-allocator's own loop buries everything. What decided that the row was reached at all costs more still."""
+A search by cost. A step along a value costs 1. A step along an address costs 12: else the walk
+through a list or an allocator's own loop buries everything. What decided that the row was reached
+at all costs more still."""
 from __future__ import annotations
 
 import heapq
@@ -15,23 +16,40 @@ from ..recording.writers import KEPT
 from .control import Control
 
 MOST_ROWS = 150000          # the search is cut off there: it keeps two entries a row
-ADDRESS, OUTPUT_ADDRESS = 12, 6
+ADDRESS = 12
+OUTPUT_ADDRESS = 6
 FROM_FILE = 3               # a step along the address of a word that no row stored
 FILLED = 4                  # a step to where the words beside a word were stored that never was
 DECISION = 14               # a branch before the row
-DECIDING_ROWS, MOST_BRANCHES = 300, 24
-CONTROL, OUTPUT_CONTROL, NEXT_CONTROL = 12, 8, 4    # the branch that decided of a row; of a row of an output; of a branch
-MOST_GIVERS = 8             # places that stored what a load loads, of which it is asked if a branch went past them
-MOST_CONTROL, MOST_KEPT, MOST_FILLED = 2000, 400, 4  # how often it is asked what decided of a row
-DEAREST_CONTROL, DEAREST_FILLED, KEPT_ROWS = 40, 6, 50
-SPARED, DEAREST_SPARED, MOST_SPARED = 4, 16, 100     # the branch that spared a word of the object whose value it compared
-AWAITED, NEAR_LOOP = 4, 3   # the branch by which another hart didn't store what a loop waits for
+DECIDING_ROWS = 300
+MOST_BRANCHES = 24
+CONTROL = 12  # the branch that decided of a row
+OUTPUT_CONTROL = 8  # of a row of an output
+NEXT_CONTROL = 4  # of a branch
+# Places that stored what a load loads, of which it is asked if a branch went past them
+MOST_GIVERS = 8
+# How often it is asked what decided of a row
+MOST_CONTROL = 2000
+MOST_KEPT = 400
+MOST_FILLED = 4
+DEAREST_CONTROL = 40
+DEAREST_FILLED = 6
+KEPT_ROWS = 50
+# The branch that spared a word of the object whose value it compared
+SPARED = 4
+DEAREST_SPARED = 16
+MOST_SPARED = 100
+# The branch by which another hart didn't store what a loop waits for
+AWAITED = 4
+NEAR_LOOP = 3
 WIDENS = "srai", "srli"     # the second of two shifts that widen a value
 STORES_ANOTHER = "amoswap", "sc."       # atomics whose stored word owes nothing to the loaded one
 FAR = 1000                  # a store so many rows before its load is far
 MOST_INLINED = 8            # functions that are inlined in one place
 NO_REGISTER = 0                         # memory
-START, LOOP = "start", "the loop"       # how the first rows are needed
+# How the first rows are needed
+START = "start"
+LOOP = "the loop"
 DECIDES = frozenset(("decision", "control", "kept", "spared", "awaited"))
 LAST = 0xffffffff           # more than any row
 
@@ -43,13 +61,15 @@ class Pair(NamedTuple):
 
 
 class Step(NamedTuple):
-    """A row, and how it is needed by the row before it on the way, or as what the row is needed by this one."""
+    """A row, and how it is needed by the row before it on the way, or as what the row is needed by
+    this one."""
     row: int
     how: str
 
 
 class Decided(NamedTuple):
-    """What a branch decided: at which cost it was reached, a row, and whether that was reached or kept its value."""
+    """What a branch decided: at which cost it was reached, a row, and whether that was reached or
+    kept its value."""
     cost: int
     row: int
     how: str
@@ -62,7 +82,8 @@ class Left(NamedTuple):
 
 
 class Line(NamedTuple):
-    """The rows of a history that are of one hart and place: how many, the latest, the least cost."""
+    """The rows of a history that are of one hart and place: how many, the latest, the least
+    cost."""
     hart: int
     place: str
     rows: int
@@ -78,16 +99,18 @@ class History:
     decided  the rows that led to the start only by a branch
     branches {a branch that decided of a row: of which}
     cut      whether the search was cut off
-    left     loads and registers near to the start whose values come from before a hart's first row, and not from the
-             run's start"""
+    left     loads and registers near to the start whose values come from before a hart's first row,
+             and not from the run's start"""
 
-    def __init__(self, trace: Trace, starts: Sequence[int], most: int = MOST_ROWS, control: Optional[Control] = None,
-                 is_output: bool = False, hangs: bool = False, control_cost: int = 0) -> None:
-        """`starts` are the rows that are asked of; the first is the one that the report is about. With `control` the
-        branches that decided of the rows are followed too, at `control_cost` or else the usual one. `hangs` says that the
-        starts are of a loop without end."""
+    def __init__(self, trace: Trace, starts: Sequence[int], most: int = MOST_ROWS,
+                 control: Optional[Control] = None, is_output: bool = False, hangs: bool = False,
+                 control_cost: int = 0) -> None:
+        """`starts` are the rows that are asked of; the first is the one that the report is about.
+        With `control` the branches that decided of the rows are followed too, at `control_cost` or
+        else the usual one. `hangs` says that the starts are of a loop without end."""
         self.rows, self.writers, self.calls = trace
-        self.start, self.most = starts[0], most
+        self.start = starts[0]
+        self.most = most
         self.cost: dict[int, int] = {}
         self.copied: dict[int, int] = {}        # {load: the first copied load behind it}
         self.again: dict[tuple[int, int, int], tuple[int, list[int], bool]] = {}
@@ -100,7 +123,8 @@ class History:
         self.asked = self.kept = self.filled = self.spared = 0
         self.address = OUTPUT_ADDRESS if is_output else ADDRESS
         self.hangs = hangs
-        self.control, self.control_cost = control, control_cost or (OUTPUT_CONTROL if is_output else CONTROL)
+        self.control = control
+        self.control_cost = control_cost or (OUTPUT_CONTROL if is_output else CONTROL)
         self.cut = False
         self.left: set[Left] = set()
         self.heap: list[int] = []               # price << 32 | what a row is less than LAST
@@ -109,15 +133,18 @@ class History:
             heapq.heappush(self.heap, LAST - row)
         for row in set(starts) - {self.start}:
             self.parent[row] = Step(self.start, LOOP)
-        if not is_output:                       # the branches just before a byte is stored are those of its text
+        # The branches just before a byte is stored are those of its text
+        if not is_output:
             self.decisions()
         self.search()
 
     def decisions(self) -> None:
         """The latest branches before the start, one of each instruction."""
-        rows, n = self.rows, self.start - 1
+        rows = self.rows
+        n = self.start - 1
         seen: set[int] = set()
-        hart, low = rows.hart[self.start], max(1, self.start - DECIDING_ROWS)
+        hart = rows.hart[self.start]
+        low = max(1, self.start - DECIDING_ROWS)
         while n >= low and len(seen) < MOST_BRANCHES:
             if rows.hart[n] == hart and rows.code[n] not in seen and rows.code_of(n).kind == BRANCH:
                 seen.add(rows.code[n])
@@ -126,7 +153,8 @@ class History:
 
     def step(self, row: int, price: int, source: int, how: str) -> None:
         if row and (row not in self.cost or price < self.cost[row]):
-            self.cost[row], self.parent[row] = price, Step(source, how)
+            self.cost[row] = price
+            self.parent[row] = Step(source, how)
             if how in DECIDES or source in self.decided:
                 self.decided.add(row)
             else:
@@ -137,7 +165,8 @@ class History:
         done = 0
         while self.heap:
             key = heapq.heappop(self.heap)
-            price, n = key >> 32, LAST - (key & LAST)
+            price = key >> 32
+            n = LAST - (key & LAST)
             if price > self.cost[n]:
                 continue
             done += 1
@@ -150,15 +179,19 @@ class History:
                 self.deciding(self.control, n, price)
 
     def visit(self, n: int, price: int) -> None:
-        rows, writers = self.rows, self.writers
-        ins, flag = rows.codes[rows.code[n]], rows.flags[n]
+        rows = self.rows
+        writers = self.writers
+        ins = rows.codes[rows.code[n]]
+        flag = rows.flags[n]
         if flag & FAULTS:                       # its address is the bad value
             self.step(writers.first[n], price + 1, n, "address")
-        elif flag & LOADS and not (ins.kind == AMO and ins.name.startswith(STORES_ANOTHER) and self.is_for_memory(n)):
+        elif flag & LOADS and not (ins.kind == AMO and ins.name.startswith(STORES_ANOTHER)
+                                   and self.is_for_memory(n)):
             unstored = not self.loaded(n, price)
             if ins.kind == AMO:
                 self.step(writers.second[n], price + 1, n, "value")
-            self.step(writers.first[n], price + (FROM_FILE if unstored else self.address), n, "address")
+            self.step(writers.first[n], price + (FROM_FILE if unstored else self.address),
+                      n, "address")
         elif flag & STORES:
             self.step(writers.second[n], price + 1, n, "value")
             self.step(writers.first[n], price + self.address, n, "address")
@@ -173,7 +206,9 @@ class History:
 
     def unchanged(self, n: int) -> int:
         """The row of the value that two shifts widened and left as it was, or 0."""
-        rows, writers, source = self.rows, self.writers, self.writers.first[n]
+        rows = self.rows
+        writers = self.writers
+        source = self.writers.first[n]
         if not source or rows.code_of(n).name not in WIDENS or rows.code_of(source).name != "slli":
             return 0
         before = writers.first[source]
@@ -200,9 +235,10 @@ class History:
         return n in self.parent and self.parent[n].how == "memory"
 
     def given(self, n: int) -> tuple[int, list[int], bool]:
-        """The first copied load behind a load, the stores that it got, and whether they gave all of its bytes. Of a store far
-        back it is kept, since the rounds of a loop get the same again."""
-        writers, word = self.writers, self.writers.word[n]
+        """The first copied load behind a load, the stores that it got, and whether they gave all of
+        its bytes. Of a store far back it is kept, since the rounds of a loop get the same again."""
+        writers = self.writers
+        word = self.writers.word[n]
         key = self.rows.code[n], word, self.rows.flags[n]
         if key in self.again:
             first, found, is_whole = self.again[key]
@@ -229,16 +265,18 @@ class History:
         if not is_whole:
             self.before.append(n)
             self.leave(n, price, NO_REGISTER)
-        if not found and price <= DEAREST_FILLED and self.filled < MOST_FILLED and not self.rows.access(n).value:
+        if (not found and price <= DEAREST_FILLED and self.filled < MOST_FILLED
+                and not self.rows.access(n).value):
             self.filled += 1
             for row in self.writers.beside(n):  # why not here?
                 self.step(self.writers.first[row], price + FILLED, n, "address")
         return bool(found)
 
     def not_stored(self, control: Control, n: int, pair: Pair, price: int, is_spill: bool) -> None:
-        """The branches by which a word that a row loads wasn't stored again: another hart left what a loop waits for, those who
-        store it were passed, or the word was spared."""
-        rows, store = self.rows, pair.store
+        """The branches by which a word that a row loads wasn't stored again: another hart left what
+        a loop waits for, those who store it were passed, or the word was spared."""
+        rows = self.rows
+        store = pair.store
         if self.hangs and price <= NEAR_LOOP and rows.hart[n] != rows.hart[store]:
             self.decide(control.left(store), Decided(price + AWAITED, n, "awaited"))
         if is_spill:
@@ -253,9 +291,11 @@ class History:
             self.decide(control.spared(pair.load, store), Decided(price + SPARED, n, "spared"))
 
     def first_copied(self, load: int) -> int:
-        """The load behind a load whose word was copied by its own instruction before, again and again: the first copy
-        counts."""
-        rows, writers, passed = self.rows, self.writers, []
+        """The load behind a load whose word was copied by its own instruction before, again and
+        again: the first copy counts."""
+        rows = self.rows
+        writers = self.writers
+        passed = []
         while load not in self.copied:
             source = writers.second[writers.word[load]]
             if rows.code[source] != rows.code[load] or not rows.flags[source] & LOADS:
@@ -306,15 +346,18 @@ class History:
     def lines(self, places: Places) -> list[Line]:
         """The values by source line, nearest first."""
         rows = self.rows
-        alike: dict[tuple[int, int], tuple[int, int, int]] = {}     # {hart and code: how many rows, the latest, the least cost}
+        # {hart and code: how many rows, the latest, the least cost}
+        alike: dict[tuple[int, int], tuple[int, int, int]] = {}
         for n, price in self.cost.items():
             if n not in self.decided:
                 times, latest, least = alike.get((rows.hart[n], rows.code[n]), (0, 0, LAST))
-                alike[rows.hart[n], rows.code[n]] = times + 1, n if n > latest else latest, price if price < least else least
+                alike[rows.hart[n], rows.code[n]] = (times + 1, n if n > latest else latest,
+                                                     price if price < least else least)
         groups: dict[tuple[int, str], Line] = {}
         places.fetch({rows.codes[code].pc for _, code in alike})
         for (hart, code), (times, latest, price) in alike.items():
             key = hart, places.chain([rows.codes[code].pc], MOST_INLINED)
             item = groups.get(key, Line(*key, 0, latest, price))
-            groups[key] = Line(*key, item.rows + times, max(item.latest, latest), min(item.cost, price))
+            groups[key] = Line(*key, item.rows + times,
+                               max(item.latest, latest), min(item.cost, price))
         return sorted(groups.values(), key=lambda item: (item.cost, -item.latest))

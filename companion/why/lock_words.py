@@ -1,5 +1,6 @@
-"""Which words are locks: those that a hart sets from 0 by an atomic instruction, and sets to 0 again. One that atomics add to,
-or set from one value to another that isn't 0 either, counts something, and is none."""
+"""Which words are locks: those that a hart sets from 0 by an atomic instruction, and sets to 0
+again. One that atomics add to, or set from one value to another that isn't 0 either, counts
+something, and is none."""
 from __future__ import annotations
 
 from typing import NamedTuple
@@ -17,7 +18,10 @@ class Setting(NamedTuple):
 
 def setting(rows: Rows) -> list[Setting]:
     """In the rows' order."""
-    found, free, counts, stored = [], set(), set(), iter(rows.stored)
+    found = []
+    free = set()
+    counts = set()
+    stored = iter(rows.stored)
     is_atomic = [ins.kind == AMO for ins in rows.codes]
     adds = [ins.name.startswith("amoadd") for ins in rows.codes]
     for n, address, value in zip(rows.accesses, rows.addresses, rows.words):
@@ -39,7 +43,8 @@ def setting(rows: Rows) -> list[Setting]:
             else:
                 free.add(address)
     found = [each for each in found if each.word not in counts]
-    words, stored = {each.word for each in found}, iter(rows.stored)
+    words = {each.word for each in found}
+    stored = iter(rows.stored)
     for n, address, value in zip(rows.accesses, rows.addresses, rows.words):
         kind = rows.flags[n] & (LOADS | STORES)
         value = next(stored) if kind == LOADS | STORES else value

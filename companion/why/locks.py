@@ -1,5 +1,5 @@
-"""A word that harts access while they hold a lock, and once without it. Nothing has to say which words a lock guards: that
-shows in what is held at their accesses."""
+"""A word that harts access while they hold a lock, and once without it. Nothing has to say which
+words a lock guards: that shows in what is held at their accesses."""
 from __future__ import annotations
 
 from collections import Counter
@@ -12,7 +12,9 @@ from .history import History
 from .lock_words import Setting
 from .suspect import Extra, Suspect
 
-LEAST, RARE = 3, 3          # how often a guarded word is accessed with its lock at least, and how much rarer without
+# How often a guarded word is accessed with its lock at least, and how much rarer without
+LEAST = 3
+RARE = 3
 UNLOCKED = 12
 
 
@@ -32,7 +34,8 @@ def accesses(rows: Rows, words: Iterable[int], changes: Sequence[Setting]) -> di
         while at < len(changes) and changes[at].row <= n:
             row, lock, is_set = changes[at]
             hart = rows.hart[row]
-            held[hart] = held[hart] | {lock} if is_set and (hart, lock) in given_back else held[hart] - {lock}
+            held[hart] = (held[hart] | {lock} if is_set and (hart, lock) in given_back
+                          else held[hart] - {lock})
             at += 1
         if address & ~3 in found:
             found[address & ~3].append(Held(n, held[rows.hart[n]]))
@@ -40,30 +43,34 @@ def accesses(rows: Rows, words: Iterable[int], changes: Sequence[Setting]) -> di
 
 
 def unlocked(facts: Facts, history: History) -> list[Suspect]:
-    """The accesses without a lock to words that are behind the start and that others access with one."""
+    """The accesses without a lock to words that are behind the start and that others access with
+    one."""
     rows = facts.rows
     if len(rows.last) < 2:
         return []
-    nearest, found = history.words(), []
+    nearest = history.words()
+    found = []
     changes = facts.changes
-    for word, held in accesses(rows, set(nearest) - {each.word for each in changes}, changes).items():
-        lock, times = max(Counter(lock for each in held for lock in each.locks).items(), key=lambda item: item[1],
-                          default=(word, 0))
+    for word, held in accesses(rows,
+                               set(nearest) - {each.word for each in changes}, changes).items():
+        lock, times = max(Counter(lock for each in held for lock in each.locks).items(),
+                          key=lambda item: item[1], default=(word, 0))
         bare = bare_of(rows, held, lock, changes)
         stores = [each for each in bare if rows.flags[each.row] & STORES]
         if lock != word and bare and times >= LEAST and times >= RARE * len(bare):
             guilty = (stores or bare)[-1]
             found.append(suspect_of(facts, guilty.row, [each.row for each in bare], nearest[word]))
             own = ", ".join(name_of(facts, each) for each in sorted(guilty.locks)) or "none"
-            found[-1].sign(UNLOCKED, f"at {number(times)} other accesses to {name_of(facts, word)} their hart holds "
-                                     f"{name_of(facts, lock)}, here {own}")
+            found[-1].sign(UNLOCKED, f"at {number(times)} other accesses to {name_of(facts, word)} "
+                           f"their hart holds {name_of(facts, lock)}, here {own}")
     return found
 
 
 def bare_of(rows: Rows, held: Sequence[Held], lock: int, changes: Sequence[Setting]) -> list[Held]:
-    """The accesses to a word that have to be guarded, and aren't: until a second hart comes nothing has to be, nor once the
-    others don't come again, as after a join. Of a hart that had rows before the first, which can have taken the lock, those
-    count that come after it took or gave the lock."""
+    """The accesses to a word that have to be guarded, and aren't: until a second hart comes nothing
+    has to be, nor once the others don't come again, as after a join. Of a hart that had rows before
+    the first, which can have taken the lock, those count that come after it took or gave the
+    lock."""
     begun: dict[int, int] = {}
     for row, word, _ in changes:
         if word == lock:

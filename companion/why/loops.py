@@ -1,7 +1,8 @@
-"""What a hart that came to its limit was doing: its loop, since when, what would have ended it, and what stopped before.
+"""What a hart that came to its limit was doing: its loop, since when, what would have ended it, and
+what stopped before.
 
-The rows of such a hart end with rows of few places, again and again. A stay among these places is taken for the hang if
-no earlier one was half as long: a loop that ends in time isn't."""
+The rows of such a hart end with rows of few places, again and again. A stay among these places is
+taken for the hang if no earlier one was half as long: a loop that ends in time isn't."""
 from __future__ import annotations
 
 import sys
@@ -21,12 +22,14 @@ NO_CODE = -1
 MOST_CUTS = 12              # how many sets of places are tried
 OFTEN = 3                   # how often a place ran that then stopped
 LOW = 0xffffffff            # the bits of one of a pair
-LATEST, LATEST_ROWS = 6, 50000  # how many stores of each place are looked at for words that change, and how far back
+# How many stores of each place are looked at for words that change, and how far back
+LATEST = 6
+LATEST_ROWS = 50000
 
 
 class Operand(NamedTuple):
-    """A value that a branch compares: its register, the row that wrote it, the load that it came from, the store that
-    this got. 0 is none."""
+    """A value that a branch compares: its register, the row that wrote it, the load that it came
+    from, the store that this got. 0 is none."""
     register: int
     row: int
     load: int
@@ -34,8 +37,8 @@ class Operand(NamedTuple):
 
 
 class Exit(NamedTuple):
-    """A branch of a loop that always went the same way: its latest row, how often it ran, whether its other side leads
-    out of the loop's places, and what it compares."""
+    """A branch of a loop that always went the same way: its latest row, how often it ran, whether
+    its other side leads out of the loop's places, and what it compares."""
     row: int
     times: int
     leads_out: bool
@@ -64,10 +67,13 @@ class Loop:
         self.codes = codes_of(trace.rows, hart)
         self.latest: dict[int, int] = {}        # {code: its last place among the hart's rows}
         for begin in range(0, len(self.codes), AT_ONCE):
-            self.latest.update(zip(self.codes[begin:begin + AT_ONCE], range(begin, len(self.codes))))
+            self.latest.update(zip(self.codes[begin:begin + AT_ONCE],
+                                   range(begin, len(self.codes))))
         self.places, self.begin = self.find_places()
         stay = self.codes[self.begin:]
-        self.first, self.size, self.pairs = self.of_hart[self.begin], len(stay), pairs_of(stay)
+        self.first = self.of_hart[self.begin]
+        self.size = len(stay)
+        self.pairs = pairs_of(stay)
         self.times = times_of(self.pairs) + Counter(stay[-1:])
         self.rounds = min((self.times[at] for at in self.places), default=0)
         self.exits = self.find_exits()
@@ -77,10 +83,13 @@ class Loop:
     def find_places(self) -> tuple[set[int], int]:
         """The places, and the beginning of the stay among the hart's rows."""
         end = len(self.codes)
-        latest = sorted(self.latest.items(), key=lambda item: -item[1]) + [(NO_CODE, -1)]     # before the first row
-        cuts = [i for i in range(1, len(latest)) if end - latest[i][1] >= LONGER * (end - latest[i - 1][1])]
+        # Before the first row
+        latest = sorted(self.latest.items(), key=lambda item: -item[1]) + [(NO_CODE, -1)]
+        cuts = [i for i in range(1, len(latest))
+                if end - latest[i][1] >= LONGER * (end - latest[i - 1][1])]
         for i in cuts[:MOST_CUTS]:
-            places, begin = {at for at, _ in latest[:i]}, latest[i][1] + 1
+            places = {at for at, _ in latest[:i]}
+            begin = latest[i][1] + 1
             if self.longest_stay(places, begin) * 2 < end - begin:
                 return places, begin
         return set(), end - 1
@@ -94,7 +103,9 @@ class Loop:
         return max(map(len, marks.split(b"\0")))
 
     def find_exits(self) -> list[Exit]:
-        rows, trace, where = self.rows, self.trace, {self.rows.codes[at].pc for at in self.places}
+        rows = self.rows
+        trace = self.trace
+        where = {self.rows.codes[at].pc for at in self.places}
         ways: dict[int, list[int]] = {}
         for at, following in self.pairs:
             if rows.codes[at].kind == BRANCH and at in self.places:
@@ -127,7 +138,8 @@ class Loop:
 
 def codes_of(rows: Rows, hart: int) -> array[int]:
     """The codes of a hart's rows."""
-    return rows.code[1:] if len(rows.last) == 1 else array("I", compress(rows.code, rows_of(rows, hart)))
+    return rows.code[1:] if len(rows.last) == 1 else array("I",
+                                                           compress(rows.code, rows_of(rows, hart)))
 
 
 def pairs_of(codes: array[int]) -> Counter[tuple[int, int]]:
@@ -138,7 +150,8 @@ def pairs_of(codes: array[int]) -> Counter[tuple[int, int]]:
         for at in (0, codes.itemsize):
             found.update(array("Q", data[at:at + (len(data) - at) // 8 * 8]))
     first, second = (0, 32) if sys.byteorder == "little" else (32, 0)
-    return Counter({(pair >> first & LOW, pair >> second & LOW): times for pair, times in found.items()})
+    return Counter({(pair >> first & LOW, pair >> second & LOW): times
+                    for pair, times in found.items()})
 
 
 def times_of(pairs: Counter[tuple[int, int]]) -> Counter[int]:
@@ -163,8 +176,10 @@ def rows_of(rows: Rows, hart: int) -> bytes:
 
 def operands_of(trace: Trace, row: int) -> list[Operand]:
     """What a branch compares beside 0."""
-    ins, found = trace.rows.code_of(row), []
-    for register, source in ((ins.rs1, trace.writers.first[row]), (ins.rs2, trace.writers.second[row])):
+    ins = trace.rows.code_of(row)
+    found = []
+    for register, source in ((ins.rs1, trace.writers.first[row]),
+                             (ins.rs2, trace.writers.second[row])):
         if register:
             load = load_behind(trace, source)
             found.append(Operand(register, source, load, store_behind(trace, load)))

@@ -1,4 +1,5 @@
-"""Memory errors among the rows that were read: statements by definition, which come before the guesses."""
+"""Memory errors among the rows that were read: statements by definition, which come before the
+guesses."""
 from __future__ import annotations
 
 from typing import Any
@@ -20,14 +21,16 @@ class MemoryErrors:
     def __init__(self, facts: Analysis) -> None:
         self.answer = None
         if not facts.asked and facts.log.memory <= LARGEST_MEMORY:
-            self.answer = Answer(run_of(facts.log, facts.elf.name, facts.named), facts.places, [], [])
+            self.answer = Answer(run_of(facts.log, facts.elf.name, facts.named), facts.places,
+                                 [], [])
 
     def lines(self) -> list[str]:
         """The first findings, with their callers."""
         if self.answer is None:
             return []
         found = self.answer.findings
-        lines = [line[2:] for at, each in enumerate(found[:TOLD], 1) for line in self.answer.finding(at, each)]
+        lines = [line[2:] for at, each in enumerate(found[:TOLD], 1)
+                 for line in self.answer.finding(at, each)]
         return lines + [f".. and {len(found) - TOLD} more"] * (len(found) > TOLD)
 
     def first(self) -> str:
@@ -42,4 +45,5 @@ class MemoryErrors:
         return [Part(HEAD, lines)] if lines else []
 
     def entries(self) -> list[dict[str, Any]]:
-        return [self.answer.finding_of(each) for each in self.answer.findings[:LONGEST]] if self.answer else []
+        return ([self.answer.finding_of(each) for each in self.answer.findings[:LONGEST]]
+                if self.answer else [])

@@ -1,7 +1,7 @@
 """How memory that functions hand out was used after it was given back.
 
-Both rows of a suspect, a load and the store that it got, have a pointer; each pointer came from a block that a giver
-handed out (blocks.py). Whether it is the same block says what went wrong."""
+Both rows of a suspect, a load and the store that it got, have a pointer; each pointer came from a
+block that a giver handed out (blocks.py). Whether it is the same block says what went wrong."""
 from __future__ import annotations
 
 from collections import Counter
@@ -13,19 +13,25 @@ from .facts import Facts
 from .suspect import Extra, Suspect
 
 GIVEN_BACK = 16
-TWICE, MOST_TWICE = 8, 3     # what such a suspect costs, and how many there may be: else a taker is none
+# What such a suspect costs, and how many there may be: else a taker is none
+TWICE = 8
+MOST_TWICE = 3
 MOST_COPIES = 2             # lines that stored copies of a pointer
 
 
 class MemoryUse:
     def __init__(self, facts: Facts) -> None:
-        self.facts, self.rows, self.writers = facts, facts.rows, facts.writers
+        self.facts = facts
+        self.rows = facts.rows
+        self.writers = facts.writers
         self.blocks = Blocks(facts.trace, facts.elf)
         self.told: set[int] = set()
 
     def judge(self, item: Suspect) -> list[Suspect]:
-        """The suspects that a load and its store are: none, or one of a kind that names the call."""
-        rows, writers = self.rows, self.writers
+        """The suspects that a load and its store are: none, or one of a kind that names the
+        call."""
+        rows = self.rows
+        writers = self.writers
         where = rows.load_of(item.load)
         if where is None or not self.blocks.by_address:
             return []
@@ -35,11 +41,13 @@ class MemoryUse:
             return []
         # What is free is the allocator's: it may load from there.
         is_own = self.blocks.is_own(item.load)
-        back = [n for n in self.blocks.given_back(loaded, loaded.back, item.load) if n < item.store and not is_own]
+        back = [n for n in self.blocks.given_back(loaded, loaded.back, item.load)
+                if n < item.store and not is_own]
         if back:
             return self.used_after(item, loaded, back, address)
         stored = self.blocks.behind(writers.first[item.store], address)
-        if stored and stored.giver == loaded.giver and stored.address == loaded.address and stored.call > loaded.call:
+        if (stored and stored.giver == loaded.giver and stored.address == loaded.address
+                and stored.call > loaded.call):
             return self.given_back(item, loaded, stored)
         return []
 
@@ -64,10 +72,12 @@ class MemoryUse:
         item.shown = False                      # this one tells of both its rows
         return [found]
 
-    def used_after(self, item: Suspect, block: Block, rows: list[int], address: int) -> list[Suspect]:
-        """A pointer that was kept over the call that gave its memory back: the first one after its block was given out. The
-        later ones gave back what others had got there since."""
-        owner, back = self.blocks.behind(self.writers.first[item.store], address), rows[0]
+    def used_after(self, item: Suspect, block: Block, rows: list[int],
+                   address: int) -> list[Suspect]:
+        """A pointer that was kept over the call that gave its memory back: the first one after its
+        block was given out. The later ones gave back what others had got there since."""
+        owner = self.blocks.behind(self.writers.first[item.store], address)
+        back = rows[0]
         again = "given out again, and" if owner and owner.call > back else "and"
         found = self.suspect(item, back, f"the memory was given back, {again} still used")
         kept = self.kept_pointer(item.load, back)
@@ -80,22 +90,29 @@ class MemoryUse:
         return found
 
     def add_copy(self, suspect: Suspect, block: Block, back: int) -> None:
-        """Tells of the lines that stored a copy of the pointer least often: nobody may have counted it."""
+        """Tells of the lines that stored a copy of the pointer least often: nobody may have counted
+        it."""
         rows = self.rows
         times: Counter[int] = Counter()
         latest: dict[int, int] = {}
         for n in rows.stores_of_value(block.address, block.call, back):
             times[rows.code[n]] += 1
             latest[rows.code[n]] = n
-        rest = sorted((times[at], -n) for at, n in latest.items() if not self.blocks.is_own(n) and rows.code_of(n).rs1 != SP)
+        rest = sorted((times[at], -n) for at, n in latest.items()
+                      if not self.blocks.is_own(n) and rows.code_of(n).rs1 != SP)
         lines = {self.facts.line(-n): -n for _, n in reversed(rest)}
-        suspect.extra += [Extra("a copy of the pointer was stored in", n) for n in list(lines.values())[:-MOST_COPIES - 1:-1]]
+        suspect.extra += [Extra("a copy of the pointer was stored in", n)
+                          for n in list(lines.values())[:-MOST_COPIES - 1:-1]]
 
     def kept_pointer(self, load: int, back: int) -> int:
-        """The row that a load's pointer comes from, as it was before a row: copies and spills of it are passed."""
-        rows, writers, n = self.rows, self.writers, self.writers.first[load]
+        """The row that a load's pointer comes from, as it was before a row: copies and spills of it
+        are passed."""
+        rows = self.rows
+        writers = self.writers
+        n = self.writers.first[load]
         while n:
-            ins, before = rows.code_of(n), 0
+            ins = rows.code_of(n)
+            before = 0
             if rows.flags[n] & LOADS:
                 before = writers.store(n)
                 if n < back and not (before and rows.is_spill(n, before)):
@@ -110,15 +127,18 @@ class MemoryUse:
         return 0
 
     def given_back(self, item: Suspect, loaded: Block, stored: Block) -> list[Suspect]:
-        """The block that the store used was handed out after the load's, and has the same memory."""
+        """The block that the store used was handed out after the load's, and has the same
+        memory."""
         rows = self.blocks.given_back(loaded, loaded.back, stored.call)
         if rows:
-            return self.suspect(item, rows[-1], "the memory was given back, given out again, and still used")
+            return self.suspect(item, rows[-1],
+                                "the memory was given back, given out again, and still used")
         # Nobody gave it back between: it was given back twice before, and so given out twice.
         before = self.blocks.given_back(loaded, 0, loaded.call)
         if len(before) < 2:
             return []
-        found = self.suspect(item, before[-2], "the memory was given back twice, and so has two owners")
+        found = self.suspect(item, before[-2],
+                             "the memory was given back twice, and so has two owners")
         for suspect in found:
             suspect.extra.append(Extra("and again by", before[-1]))
         return found

@@ -9,7 +9,8 @@ from .facts import Facts
 from .history import History
 
 LARGEST_LOG = 1 << 28
-MOST_LOADS, MOST_FRAMES = 400, 4
+MOST_LOADS = 400
+MOST_FRAMES = 4
 
 
 class Origin(NamedTuple):
@@ -39,17 +40,20 @@ def came_from(facts: Facts, n: int) -> str:
     told = facts.rows.load_of(n)
     if told is None:
         return "no row tells"
-    word, rest = told.address & ~3, facts.writers.stores(n).rest
+    word = told.address & ~3
+    rest = facts.writers.stores(n).rest
     mine = [i for i in range(4) if rest >> i & 1]
     for call in reversed(facts.rows.reads):
         if call.row < n and any(call.address <= word + i < call.address + call.size for i in mine):
-            return f"a read call filled it (hart {call.hart}, count {number(facts.rows.count_of(call.row))})"
+            return (f"a read call filled it (hart {call.hart}, "
+                    f"count {number(facts.rows.count_of(call.row))})")
     stored = facts.earlier_of(n)
     if stored:
         places = facts.places.chain([stored.code.pc, *stored.calls], MOST_FRAMES)
         moment = f"hart {stored.hart} at count {number(stored.ic)}"
         return f"stored before the rows that were read, by {moment} in {places}"
-    before = "stored before the rows that were read" if facts.is_part else "stored before the log" if facts.log.dropped else ""
+    before = ("stored before the rows that were read" if facts.is_part
+              else "stored before the log" if facts.log.dropped else "")
     mask = sum(255 << 8 * i for i in mine)
     value = told.value & mask
     if value != (facts.elf.word(word) or 0) & mask:
@@ -67,11 +71,13 @@ def advice(log: Log) -> list[str]:
         return []
     kept = max(1, log.records)
     whole = log.size + log.dropped * max(1, log.size // kept)
-    said = [f"The log gave up {number(log.dropped)} records before its first: values can come from there."]
+    said = [f"The log gave up {number(log.dropped)} records before its first: "
+            "values can come from there."]
     if whole <= LARGEST_LOG:
         size = 1 << (whole - 1).bit_length()
-        said.append(f"About `record --log-size {min(size, LARGEST_LOG)}` would have kept the whole run.")
+        said.append(f"About `record --log-size {min(size, LARGEST_LOG)}` would have kept the "
+                    "whole run.")
     else:
-        said.append(f"The whole run has about {number(whole)} bytes of records, more than `--log-size` takes; a larger "
-                    "cache (`--sets`, `--ways`) logs fewer loads.")
+        said.append(f"The whole run has about {number(whole)} bytes of records, more than "
+                    "`--log-size` takes; a larger cache (`--sets`, `--ways`) logs fewer loads.")
     return said

@@ -9,12 +9,15 @@ from ..recording.trace import Trace
 from .suspect import Suspect
 
 DEEP = 500                  # calls
-ASKED_FROM, ASKED_CALLS = 250, 64   # deeper than a sound program goes, and before the stack can have damaged anything
+# Deeper than a sound program goes, and before the stack can have damaged anything
+ASKED_FROM = 250
+ASKED_CALLS = 64
 COST = 2
 
 
 class Recursion(NamedTuple):
-    """The call that the stack has most often, if it is deep, and the rows that gave calls in its middle what they got."""
+    """The call that the stack has most often, if it is deep, and the rows that gave calls in its
+    middle what they got."""
     suspects: list[Suspect]
     given: list[int]
 
@@ -30,6 +33,7 @@ def find_recursion(trace: Trace, start: int) -> Recursion:
         return Recursion([], [])
     latest = max(made.jumps[at] for at, pc in zip(calls, places) if pc == place)
     suspect = Suspect("calls", latest, latest, COST)
-    suspect.why.append(f"the stack is {number(len(calls))} calls deep, and {number(times)} of them are this one")
+    suspect.why.append(f"the stack is {number(len(calls))} calls deep, "
+                       f"and {number(times)} of them are this one")
     asked = calls[ASKED_FROM:ASKED_FROM + ASKED_CALLS]
     return Recursion([suspect], [made.writers[at] for at in asked if made.writers[at]])

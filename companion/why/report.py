@@ -16,9 +16,18 @@ from .returned import middle_lines, null_lines
 from .stack_room import stack_lines
 from .suspect import ALONE, DID, NEW_OWNER, Suspect
 
-BRIEF_SUSPECTS, FIRST_SUSPECTS, MORE_SUSPECTS, LINES, MORE_LINES, ORIGINS, MORE_ORIGINS = 3, 5, 12, 10, 40, 6, 20
-ROW_WIDTH, TEXT_WIDTH, MOST_CALLS = 84, 78, 9
-SUSPECTS = "likeliest first (a load and the store that it got; what a call did to the memory; a branch)"
+BRIEF_SUSPECTS = 3
+FIRST_SUSPECTS = 5
+MORE_SUSPECTS = 12
+LINES = 10
+MORE_LINES = 40
+ORIGINS = 6
+MORE_ORIGINS = 20
+ROW_WIDTH = 84
+TEXT_WIDTH = 78
+MOST_CALLS = 9
+SUSPECTS = ("likeliest first (a load and the store that it got; "
+            "what a call did to the memory; a branch)")
 
 
 def report(facts: Analysis, more: bool = False) -> list[Part]:
@@ -29,7 +38,8 @@ def report(facts: Analysis, more: bool = False) -> list[Part]:
     if not facts.asked and not facts.output:
         parts.append(Part("REGISTERS", register_lines(facts)))
     parts += [Part("LAST ROWS", row_lines(facts)),
-              Part(suspects_head(facts), suspect_lines(facts, MORE_SUSPECTS if more else FIRST_SUSPECTS)),
+              Part(suspects_head(facts),
+                   suspect_lines(facts, MORE_SUSPECTS if more else FIRST_SUSPECTS)),
               value_part(facts, MORE_LINES if more else LINES),
               Part(f"FROM BEFORE: loads behind it whose value {facts.no_row} gave",
                    origin_lines(facts, MORE_ORIGINS if more else ORIGINS))]
@@ -40,9 +50,12 @@ def report(facts: Analysis, more: bool = False) -> list[Part]:
 
 def brief(facts: Analysis) -> list[Part]:
     """The end, and the first suspects: what each did and from where."""
-    suspects = [line for place, item in enumerate(facts.shown[:BRIEF_SUSPECTS], 1) for line in guilty(facts, place, item)]
-    return [Part(heading(facts), head_lines(facts)), *[Part("HANG", hang_lines(facts, False))] * bool(facts.loops),
-            Part(suspects_head(facts), suspects or no_suspect(facts)), Part("", unread(facts) + facts.notes + facts.places.trouble())]
+    suspects = [line for place, item in enumerate(facts.shown[:BRIEF_SUSPECTS], 1)
+                for line in guilty(facts, place, item)]
+    return [Part(heading(facts), head_lines(facts)),
+            *[Part("HANG", hang_lines(facts, False))] * bool(facts.loops),
+            Part(suspects_head(facts), suspects or no_suspect(facts)),
+            Part("", unread(facts) + facts.notes + facts.places.trouble())]
 
 
 def suspects_head(facts: Analysis) -> str:
@@ -51,18 +64,23 @@ def suspects_head(facts: Analysis) -> str:
 
 
 def heading(facts: Analysis) -> str:
-    return "OUTPUT" if facts.output else "ROW" if facts.asked else "FAULT" if facts.faulted else "END"
+    return ("OUTPUT" if facts.output else "ROW" if facts.asked
+            else "FAULT" if facts.faulted else "END")
 
 
 def head_lines(facts: Analysis) -> list[str]:
-    rows, start = facts.rows, facts.start
-    hart, count = rows.hart[start], number(rows.count_of(start))
-    at, verb = start, "In"
+    rows = facts.rows
+    start = facts.start
+    hart = rows.hart[start]
+    count = number(rows.count_of(start))
+    at = start
+    verb = "In"
     if rows.fault and facts.faulted:
         said = [f"{rows.fault.name} {rows.fault.value:08x}, hart {hart} at count {count}"]
         said += fault_words(rows, rows.fault, facts.named)
         if rows.fault.name == "FetchOutside" and len(facts.last) > 1:
-            at, verb = facts.last[-2], "By the jump in"
+            at = facts.last[-2]
+            verb = "By the jump in"
     elif facts.output:
         said = output_lines(facts, facts.output)
     elif facts.asked:
@@ -78,16 +96,19 @@ def head_lines(facts: Analysis) -> list[str]:
 
 def output_lines(facts: Analysis, byte: Written) -> list[str]:
     """What was written, and who stored the byte."""
-    rows, call = facts.rows, byte.call
+    rows = facts.rows
+    call = byte.call
     row = rows.row_of(call.hart, call.count)
-    said = [f"Asked of byte {byte.place} of write {byte.write}, which took {counted(call.size, 'byte')} from {call.address:08x}",
+    said = [f"Asked of byte {byte.place} of write {byte.write}, "
+            f"which took {counted(call.size, 'byte')} from {call.address:08x}",
             f"hart {call.hart} wrote it at count {number(call.count)} in {facts.where(row)}"]
     if facts.stored == row:
         return said + [f"{facts.no_row.capitalize()} stored the byte: below is the write."]
     told = rows.store_of(facts.stored)
     place = call.address + byte.place & 3
     value = bytes([told.value >> 8 * place & 255]) if told else b""
-    said.append(f"The byte is {repr(value)[1:]}: hart {rows.hart[facts.stored]} stored it at count {number(rows.count_of(facts.stored))}.")
+    said.append(f"The byte is {repr(value)[1:]}: hart {rows.hart[facts.stored]} stored it at count "
+                f"{number(rows.count_of(facts.stored))}.")
     if facts.start != facts.stored:
         said.append("A library made it of what it was given: below is that.")
     return said
@@ -99,7 +120,8 @@ def call_lines(facts: Analysis) -> list[str]:
     said = []
     for i, frame in enumerate(stack.frames):
         inlined = "  (inlined)" if frame.inlined else ""
-        said.append(f"{'from' if i else 'at':<5} {frame.address:08x} {frame.function}  {frame.place}{inlined}")
+        said.append(f"{'from' if i else 'at':<5} {frame.address:08x} "
+                    f"{frame.function}  {frame.place}{inlined}")
     if stack.left_out:
         said.insert(-1, f"      .. {counted(stack.left_out, 'more call')} ..")
     first = "the first row that was read" if facts.is_part else "the log's first row"
@@ -108,11 +130,13 @@ def call_lines(facts: Analysis) -> list[str]:
 
 def register_lines(facts: Analysis) -> list[str]:
     values = facts.rows.final[facts.rows.hart[facts.start]]
-    return [" ".join(f"{NAMES[i]:>4} {values[i]:08x}" for i in range(row, row + 8)) for row in range(0, 32, 8)]
+    return [" ".join(f"{NAMES[i]:>4} {values[i]:08x}" for i in range(row, row + 8))
+            for row in range(0, 32, 8)]
 
 
 def row_lines(facts: Analysis) -> list[str]:
-    return [f"{short(facts.rows.text(n), ROW_WIDTH):<{ROW_WIDTH}} {facts.line(n)}" for n in facts.last]
+    return [f"{short(facts.rows.text(n), ROW_WIDTH):<{ROW_WIDTH}} {facts.line(n)}"
+            for n in facts.last]
 
 
 def suspect_lines(facts: Analysis, most: int) -> list[str]:
@@ -127,21 +151,26 @@ def no_suspect(facts: Analysis) -> list[str]:
 
 
 def guilty(facts: Analysis, place: int, item: Suspect) -> list[str]:
-    return [f"{place}. {did(facts, item.guilty, DID[item.kind])}"] + guilty_lines(facts, item.guilty)
+    return [f"{place}. {did(facts, item.guilty, DID[item.kind])}"] + guilty_lines(facts,
+                                                                                  item.guilty)
 
 
 def one_suspect(facts: Analysis, place: int, item: Suspect) -> list[str]:
     said = guilty(facts, place, item)
     for words, n in item.extra:
-        said += [f"   {words} {facts.own_where(n)}   {facts.own_source(n)}"] + guilty_lines(facts, n)
+        said += ([f"   {words} {facts.own_where(n)}   {facts.own_source(n)}"]
+                 + guilty_lines(facts, n))
     if item.kind == "back":
-        said += ["   " + did(facts, item.store, NEW_OWNER), "      " + short(facts.rows.text(item.store))]
+        said += ["   " + did(facts, item.store, NEW_OWNER),
+                 "      " + short(facts.rows.text(item.store))]
     if item.kind not in ALONE:
         said += ["   " + did(facts, item.load, "loaded it in"),
                  "      " + short(facts.rows.text(item.load)) + data_words(facts, item.load)]
     times = f" ({number(item.rows)} such pairs)" if item.rows > 1 else ""
-    commands = ready(facts.log.shown, facts.elf, facts.named, facts.rows.hart[item.guilty], facts.rows.count_of(item.guilty))
-    return said + ["   because: " + "; ".join([distance(item)] + item.why) + times] + ["   " + line for line in commands]
+    commands = ready(facts.log.shown, facts.elf, facts.named, facts.rows.hart[item.guilty],
+                     facts.rows.count_of(item.guilty))
+    return (said + ["   because: " + "; ".join([distance(item)] + item.why) + times]
+            + ["   " + line for line in commands])
 
 
 def did(facts: Analysis, n: int, words: str) -> str:
@@ -161,7 +190,8 @@ def data_words(facts: Analysis, n: int) -> str:
     told = facts.rows.load_of(n)
     if told is None:
         return ""
-    name, text = facts.members.name(told.address), as_text(told.value)
+    name = facts.members.name(told.address)
+    text = as_text(told.value)
     return (f" [{name}]" if name else "") + (f" '{text}'" if text else "")
 
 
@@ -172,45 +202,55 @@ def distance(item: Suspect) -> str:
 
 
 def value_part(facts: Analysis, most: int) -> Part:
-    history, said = facts.history, []
+    history = facts.history
+    said = []
     for line in facts.lines[:most]:
         latest = short(facts.rows.text(line.latest), TEXT_WIDTH)
         place, *callers = line.place.split(CALLED_FROM)
-        said.append(f"{f'hart {line.hart}':<6} {short(place, 36):<36} {number(line.rows):>7} rows  latest {latest}")
+        said.append(f"{f'hart {line.hart}':<6} {short(place, 36):<36} {number(line.rows):>7} rows  "
+                    f"latest {latest}")
         said += ["       inlined in " + CALLED_FROM.join(callers)] if callers else []
     if len(facts.lines) > most:
         said.append(f"       .. {counted(len(facts.lines) - most, 'more place')} (--more) ..")
-    rows, all_rows = number(len(history.cost) - len(history.decided)), number(facts.rows.size)
+    rows = number(len(history.cost) - len(history.decided))
+    all_rows = number(facts.rows.size)
     cut = " (cut off there)" if history.cut else ""
-    return Part(f"VALUES: {rows} of {all_rows} rows stand behind it{cut}, by place, nearest first", said)
+    return Part(f"VALUES: {rows} of {all_rows} rows stand behind it{cut}, by place, nearest first",
+                said)
 
 
 def origin_lines(facts: Analysis, most: int) -> list[str]:
     nearest = sorted(facts.origin.items(), key=lambda item: facts.history.cost[item[1].nearest])
-    said = [f"{number(loads.times):>5}  {origin.words:<42} loaded by {origin.place}" for origin, loads in nearest[:most]]
+    said = [f"{number(loads.times):>5}  {origin.words:<42} loaded by {origin.place}"
+            for origin, loads in nearest[:most]]
     return (said or ["nothing: all values behind it come from constants"]) + advice(facts.log)
 
 
 def race_part(facts: Analysis) -> Part:
-    races, left = facts.races, len(facts.unordered)
+    races = facts.races
+    left = len(facts.unordered)
     if races.over:
         return Part("RACES", [f"more than {MOST_RACES} races: not listed"])
     fenced = f", of which fences order {number(races.total - left)}" if left < races.total else ""
-    return Part("RACES", [f"{counted(races.total, 'pair')}{fenced}; `zelkuma race` groups them" if races.total else "none"])
+    return Part("RACES", [f"{counted(races.total, 'pair')}{fenced}; `zelkuma race` groups them"
+                          if races.total else "none"])
 
 
 def last_lines(facts: Analysis) -> list[str]:
-    return [f"read: {counted(facts.rows.size, 'row')}"] + unread(facts) + facts.notes + facts.places.trouble()
+    return ([f"read: {counted(facts.rows.size, 'row')}"] + unread(facts)
+            + facts.notes + facts.places.trouble())
 
 
 def unread(facts: Analysis) -> list[str]:
     """What of the log wasn't looked at."""
-    log, passed = facts.log, facts.rows.passed
-    before = [f"{number(log.unread)} bytes of records"] * bool(log.unread) + [counted(passed, "row")] * bool(passed)
+    log = facts.log
+    passed = facts.rows.passed
+    before = ([f"{number(log.unread)} bytes of records"] * bool(log.unread)
+              + [counted(passed, "row")] * bool(passed))
     if not before:
         return []
     last = f"up to {facts.asked or 'the write'}" if facts.asked or facts.output else "of the log"
     but = f", but for what stored {counted(len(facts.earlier), 'word')}" if facts.earlier else ""
     rows = counted(facts.rows.size, "row")
-    return [f"Only the last {rows} {last} were read: {' and '.join(before)} before them weren't{but}. "
-            "--rows N reads the last N."]
+    return [f"Only the last {rows} {last} were read: "
+            f"{' and '.join(before)} before them weren't{but}. --rows N reads the last N."]

@@ -11,15 +11,18 @@ from ..recording.instruction import ALU, OP_AUIPC, OP_LUI, SP
 from ..recording.trace import Trace
 from .facts import Facts
 
-HART_BYTES = 65536          # the machine gives each hart so many bytes at the end of memory, hart 0 the last
+# The machine gives each hart so many bytes at the end of memory, hart 0 the last
+HART_BYTES = 65536
 NEAR_BYTES = 1024           # so near to the end of a stack it is told how near
 ALLOCATED = 2               # the flag of a section that has memory
 MOST_SECTIONS = 200         # are looked at, which bounds what a forged file can ask for
-MOST_ROOMS = 1000           # so often a hart's stack is another one: who switches more often has many threads in it
+# So often a hart's stack is another one: who switches more often has many threads in it
+MOST_ROOMS = 1000
 
 
 class Room(NamedTuple):
-    """The memory of a stack, up to `high`, and what it is called, if it isn't at the end of memory."""
+    """The memory of a stack, up to `high`, and what it is called, if it isn't at the end of
+    memory."""
     name: str
     low: int
     high: int
@@ -44,14 +47,18 @@ def sections(elf: Elf) -> Iterator[Room]:
     for name, _, flags, address, _, size in heads:
         if flags & ALLOCATED and size and names < len(heads):
             at = heads[names][4] + name
-            yield Room(elf.data[at:at + 64].partition(b"\0")[0].decode("latin-1"), address, address + size)
+            yield Room(elf.data[at:at + 64].partition(b"\0")[0].decode("latin-1"),
+                       address, address + size)
 
 
 class Rooms:
-    """The places of stacks: the end of memory, an object or a section; and the rows by which harts set their pointers."""
+    """The places of stacks: the end of memory, an object or a section; and the rows by which harts
+    set their pointers."""
 
     def __init__(self, facts: Facts) -> None:
-        self.elf, self.named, self.memory = facts.elf, facts.named, facts.log.memory
+        self.elf = facts.elf
+        self.named = facts.named
+        self.memory = facts.log.memory
         self.sections = list(sections(facts.elf))
         self.writes = list(writes(facts.trace))
 
@@ -76,24 +83,30 @@ class Rooms:
 
 
 def deepest(facts: Facts, rooms: Rooms, hart: int) -> Optional[Deepest]:
-    """Of a hart the first stack that it left, and its lowest pointer there; else the last one that it was in."""
-    rows, left = facts.rows, MOST_ROOMS
+    """Of a hart the first stack that it left, and its lowest pointer there; else the last one that
+    it was in."""
+    rows = facts.rows
+    left = MOST_ROOMS
     interval = rows.log.first_intervals().get(hart)
     # If rows were passed, what its pointer was at the first one isn't known before it is set.
     found = rooms.begin(hart, 0, interval.registers[SP]) if interval and not rows.passed else None
-    is_built, begins = False, rows.passed > 0
+    is_built = False
+    begins = rows.passed > 0
     for n in rooms.writes:
         if rows.hart[n] != hart:
             continue
-        ins, pointer = rows.code_of(n), rows.values[n]
+        ins = rows.code_of(n)
+        pointer = rows.values[n]
         stays = ins.kind == ALU and SP in (ins.rs1, ins.rs2) and not is_built and not begins
-        is_built = ins.word & 127 in (OP_LUI, OP_AUIPC)     # the first of two instructions that set it
+        # The first of two instructions that set it
+        is_built = ins.word & 127 in (OP_LUI, OP_AUIPC)
         begins = False
         if found and (stays or found.room.low <= pointer <= found.room.high):
             if pointer < found.pointer:
                 found = found._replace(row=n, pointer=pointer)
         elif not stays and not is_built and left and not (found and found.pointer < found.room.low):
-            found, left = rooms.begin(hart, n, pointer), left - 1
+            found = rooms.begin(hart, n, pointer)
+            left -= 1
     return found
 
 
@@ -106,7 +119,8 @@ def writes(trace: Trace) -> Iterator[int]:
 
 def stack_lines(facts: Facts) -> list[str]:
     """Of each stack that was left, or whose end is near at the fault: how far."""
-    said, rooms = [], Rooms(facts)
+    said = []
+    rooms = Rooms(facts)
     for hart in sorted(facts.rows.last):
         found = deepest(facts, rooms, hart)
         if found and found.pointer < found.room.low:
@@ -114,7 +128,8 @@ def stack_lines(facts: Facts) -> list[str]:
         elif found and facts.faulted and hart == facts.rows.hart[facts.start]:
             now = facts.rows.final[hart][SP]
             if found.room.low <= now < found.room.low + NEAR_BYTES:
-                said.append(f"Its stack has {counted(now - found.room.low, 'byte')} left of {described(found.room)}.")
+                said.append(f"Its stack has {counted(now - found.room.low, 'byte')} left "
+                            f"of {described(found.room)}.")
     return said
 
 
@@ -128,4 +143,5 @@ def left_words(facts: Facts, hart: int, found: Deepest) -> list[str]:
 
 
 def described(room: Room) -> str:
-    return f"its {number(room.high - room.low)} bytes at {room.low:08x}" + (f" ({room.name})" if room.name else "")
+    return (f"its {number(room.high - room.low)} bytes at {room.low:08x}"
+            + (f" ({room.name})" if room.name else ""))

@@ -4,11 +4,13 @@ from __future__ import annotations
 from typing import NamedTuple
 
 # What the guilty row of each kind did, and what its other two rows did.
-DID = {"store": "stored it in", "back": "gave the memory back in", "twice": "gave the memory back in",
-       "calls": "calls itself in", "branch": "chose the way in", "unlocked": "didn't hold the others' lock in", "order": "waits for a lock in",
+DID = {"store": "stored it in", "back": "gave the memory back in",
+       "twice": "gave the memory back in", "calls": "calls itself in", "branch": "chose the way in",
+       "unlocked": "didn't hold the others' lock in", "order": "waits for a lock in",
        "failed": "stored nothing in", "unset": "loaded from its stack what it never stored in"}
 NEW_OWNER = "the new owner stored in"
-ALONE = "twice", "calls", "branch", "unlocked", "order", "failed", "unset"     # kinds that have no load
+# Kinds that have no load
+ALONE = "twice", "calls", "branch", "unlocked", "order", "failed", "unset"
 
 
 class Extra(NamedTuple):
@@ -40,11 +42,17 @@ class Suspect:
     shown        whether the report shows it"""
 
     def __init__(self, kind: str, load: int, store: int, cost: int) -> None:
-        self.kind, self.load, self.store, self.guilty = kind, load, store, store
-        self.cost, self.score = cost, float(cost)
+        self.kind = kind
+        self.load = load
+        self.store = store
+        self.guilty = store
+        self.cost = cost
+        self.score = float(cost)
         self.why: list[str] = []
         self.extra: list[Extra] = []
-        self.rows, self.shown, self.misplaced = 1, True, False
+        self.rows = 1
+        self.shown = True
+        self.misplaced = False
 
     def rows_told(self) -> list[int]:
         """The rows that it is about."""

@@ -1,12 +1,12 @@
 """What may be guilty of a crash, likeliest first.
 
-A suspect is a load and the store that it got, or memory that was used after it was given back or before it was written.
-It may also be a branch that chose the way, an access without the lock that others hold, or a function that keeps calling
-itself. Its score is the cost at which the history of the fault reached it, less what its signs are worth; the lowest
-score is the likeliest.
+A suspect is a load and the store that it got, or memory that was used after it was given back or
+before it was written. It may also be a branch that chose the way, an access without the lock that
+others hold, or a function that keeps calling itself. Its score is the cost at which the history of
+the fault reached it, less what its signs are worth; the lowest score is the likeliest.
 
-The signs, and what each is worth, were set by looking at few programs: tests/crashes/README.md says which, and how well
-they do on others."""
+The signs, and what each is worth, were set by looking at few programs: tests/crashes/README.md says
+which, and how well they do on others."""
 from __future__ import annotations
 
 import math
@@ -25,15 +25,29 @@ from .memory_use import MemoryUse
 from .suspect import Extra, Suspect, rank
 from .unread import failed_stores, unset
 
-OTHER_HART, NARROW, RACE, OTHER_FUNCTION, RARITY = 8, 12, 6, 3, 5
-COMMON, COMMON_ROWS = 10, 8   # what a near store is worth less that a load always got, if it ran so often
-CLOSES, CLOSE = 8, 3        # the store that closed a circle, and how near to the loop its load is
+OTHER_HART = 8
+NARROW = 12
+RACE = 6
+OTHER_FUNCTION = 3
+RARITY = 5
+# What a near store is worth less that a load always got, if it ran so often
+COMMON = 10
+COMMON_ROWS = 8
+# The store that closed a circle, and how near to the loop its load is
+CLOSES = 8
+CLOSE = 3
 FOLLOWED_ROWS = 400         # the last rows of a loop, in which the pointers are that it follows
-AGAIN, NOTHING_NEW = 6, 40  # what a suspect costs more whose line another tells, and if it tells no new line at all
+# What a suspect costs more whose line another tells, and if it tells no new line at all
+AGAIN = 6
+NOTHING_NEW = 40
 MOST_COMPARED = 40          # suspects whose lines are compared
-FIRST_ONES, PLACE_ROWS = 3, 2000    # suspects whose stores' addresses are asked of, and rows of such a history
+# Suspects whose stores' addresses are asked of, and rows of such a history
+FIRST_ONES = 3
+PLACE_ROWS = 2000
 MOST_FOR_PLACE = 6          # what the store's own signs are worth to these at most
-GUARD, BEHIND_PLACE = 2, 3  # what the branch before such a store costs, and what all costs more than the store
+# What the branch before such a store costs, and what all costs more than the store
+GUARD = 2
+BEHIND_PLACE = 3
 NEAR_STORE = 6              # what a near store is worth less
 MOST_LOOKED_AT = 60         # pairs of loads and stores whose rows are read
 SIZES = {1: "bytes", 2: "halves"}, {2: "half", 4: "word"}
@@ -42,13 +56,18 @@ SIZES = {1: "bytes", 2: "halves"}, {2: "half", 4: "word"}
 class Ranking:
     """found: the suspects, likeliest first."""
 
-    def __init__(self, facts: Facts, history: History, races: AbstractSet[frozenset[At]], recursion: list[Suspect],
-                 loop: Sequence[int]) -> None:
-        """`races` is pairs of accesses that nothing orders, `recursion` suspects that are known, and `loop` the rows that a
-        loop or a recursion follows."""
-        self.facts, self.trace, self.places = facts, facts.trace, facts.places
+    def __init__(self, facts: Facts, history: History, races: AbstractSet[frozenset[At]],
+                 recursion: list[Suspect], loop: Sequence[int]) -> None:
+        """`races` is pairs of accesses that nothing orders, `recursion` suspects that are known,
+        and `loop` the rows that a loop or a recursion follows."""
+        self.facts = facts
+        self.trace = facts.trace
+        self.places = facts.places
         self.rows, self.writers, _ = facts.trace
-        self.history, self.races, self.loop, self.ways = history, races, set(loop), Ways(facts)
+        self.history = history
+        self.races = races
+        self.loop = set(loop)
+        self.ways = Ways(facts)
         self.loads: dict[int, int] = {}         # a load's code: how many rows
         for pair, times in self.writers.pairs.items():
             self.loads[pair >> 32] = self.loads.get(pair >> 32, 0) + times
@@ -56,43 +75,52 @@ class Ranking:
         memory = MemoryUse(facts)
         found = [suspect for item in stores[:MOST_LOOKED_AT] for suspect in memory.judge(item)]
         found += memory.given_back_twice() + branch_suspects(facts, history, self.ways)
-        found += unlocked(facts, history) + deadlock_suspects(facts) + failed_stores(facts, history) + unset(facts, history)
+        found += (unlocked(facts, history) + deadlock_suspects(facts)
+                  + failed_stores(facts, history) + unset(facts, history))
         found = self.own_first(stores + found + recursion)
         self.found = self.once(sorted(found + self.behind_places(found, memory), key=rank))
 
     def own_first(self, found: list[Suspect]) -> list[Suspect]:
-        """Those of which no source is here, nor that of a call over them, are told only if there are no others."""
+        """Those of which no source is here, nor that of a call over them, are told only if there
+        are no others."""
         self.places.fetch({self.facts.pc_of(n) for item in found for n in (item.guilty, item.load)})
         own = [item for item in found if any(map(self.facts.own, item.rows_told()))]
         return sorted(own or found, key=rank)
 
     def behind_places(self, found: list[Suspect], memory: MemoryUse) -> list[Suspect]:
-        """A store of some bytes that a load of more got can be in a place of something else. Then it isn't the value that
-        is wrong: what is behind its address, and the branch that should have kept it away?"""
+        """A store of some bytes that a load of more got can be in a place of something else. Then
+        it isn't the value that is wrong: what is behind its address, and the branch that should
+        have kept it away?"""
         behind = []
         for item in [item for item in found if item.shown][:FIRST_ONES]:
             row = self.writers.first[item.store] if item.misplaced else 0
             if row:
-                history = History(self.trace, [row], PLACE_ROWS, self.history.control, control_cost=GUARD)
-                for suspect in [one for one in branch_suspects(self.facts, history, self.ways) + self.stores(history)
-                                if not memory.blocks.is_own(one.guilty) and not memory.blocks.is_own(one.load)]:
+                history = History(self.trace, [row], PLACE_ROWS,
+                                  self.history.control, control_cost=GUARD)
+                for suspect in [one for one in branch_suspects(self.facts, history, self.ways)
+                                + self.stores(history) if not memory.blocks.is_own(one.guilty)
+                                and not memory.blocks.is_own(one.load)]:
                     suspect.cost += item.cost
                     suspect.score += max(item.score, -MOST_FOR_PLACE) + BEHIND_PLACE
-                    suspect.why.append(f"it is behind the address of the store in {self.facts.own_where(item.store)}")
+                    suspect.why.append("it is behind the address of the store in "
+                                       f"{self.facts.own_where(item.store)}")
                     behind.append(suspect)
         return behind
 
     def once(self, found: list[Suspect]) -> list[Suspect]:
-        """Of several suspects about one line that stored, the later ones stand further back. One that tells of no line that
-        isn't told already is last: its place is for another line, and the first one tells of its store."""
+        """Of several suspects about one line that stored, the later ones stand further back. One
+        that tells of no line that isn't told already is last: its place is for another line, and
+        the first one tells of its store."""
         told_lines: set[str] = set()
         stored: dict[str, Suspect] = {}         # {line: the first suspect that stored there}
         for item in [item for item in self.behind_others(found) if item.shown][:MOST_COMPARED]:
-            lines, line = self.lines_of(item), self.facts.own_line(item.guilty)
+            lines = self.lines_of(item)
+            line = self.facts.own_line(item.guilty)
             if lines <= told_lines:
                 item.score += NOTHING_NEW
                 if item.kind == "store" and line in stored and item.store < stored[line].store:
-                    stored.pop(line).extra.append(Extra("earlier the same line stored in", item.store))
+                    stored.pop(line).extra.append(Extra("earlier the same line stored in",
+                                                        item.store))
             elif item.kind == "store":
                 stored.setdefault(line, item)
             told_lines |= lines | {self.facts.own_line(item.load)}
@@ -118,44 +146,57 @@ class Ranking:
 
     def stores(self, history: History) -> list[Suspect]:
         """A suspect for each two source lines of a history's loads and stores, with its signs."""
-        rows, writers, places = self.rows, self.writers, self.places
-        closing, pairs = self.closing_pair(), dict(history.far)
+        rows = self.rows
+        writers = self.writers
+        places = self.places
+        closing = self.closing_pair()
+        pairs = dict(history.far)
         if closing.store:
             pairs[closing] = min(CLOSE, pairs.get(closing, CLOSE))
         alike: dict[tuple[int, int, bool], list[Pair]] = {}         # by their instructions
         for pair in pairs:
-            key = rows.code[pair.load], rows.code[pair.store], rows.hart[pair.store] != rows.hart[pair.load]
+            key = (rows.code[pair.load], rows.code[pair.store],
+                   rows.hart[pair.store] != rows.hart[pair.load])
             alike.setdefault(key, []).append(pair)
-        places.fetch({rows.codes[code].pc for key in alike for code in key[:2]} |
-                     {rows.code_of(writers.word[store]).pc for store in {store for _, store in pairs} if writers.word[store]})
+        places.fetch({rows.codes[code].pc for key in alike for code in key[:2]}
+                     | {rows.code_of(writers.word[store]).pc
+                        for store in {store for _, store in pairs} if writers.word[store]})
         lines: dict[tuple[str, str, bool], list[Pair]] = {}
         for (load, store, is_other), some in alike.items():
-            lines.setdefault((places.line(rows.codes[load].pc), places.line(rows.codes[store].pc), is_other), []).extend(some)
+            lines.setdefault((places.line(rows.codes[load].pc), places.line(rows.codes[store].pc),
+                              is_other), []).extend(some)
         groups = []
         for some in lines.values():
-            load, store = closing if closing in some else min(some, key=lambda pair: (pairs[pair], -pair.load))
+            load, store = (closing if closing in some
+                           else min(some, key=lambda pair: (pairs[pair], -pair.load)))
             groups.append(Suspect("store", load, store, pairs[Pair(load, store)]))
             groups[-1].rows = len(some)
         for item in groups:
             self.judge(item, history)
             if (item.load, item.store) == closing:
-                item.sign(CLOSES, "the latest store that the loop or the calls follow: it may have closed a circle")
+                item.sign(CLOSES, "the latest store that the loop or the calls follow: "
+                          "it may have closed a circle")
         return groups
 
     def closing_pair(self) -> Pair:
-        """What a loop or a recursion follows is often a circle: the latest far store in it closed it. With its load."""
+        """What a loop or a recursion follows is often a circle: the latest far store in it closed
+        it. With its load."""
         latest = self.latest_followed()
         for (load, store), price in self.history.far.items():
-            if (price <= CLOSE and (store, load) > (latest.store, latest.load) and self.history.is_far(load, store) and
-                    self.history.root(load) in self.loop):
+            is_later = (store, load) > (latest.store, latest.load)
+            if (price <= CLOSE and is_later and self.history.is_far(load, store)
+                    and self.history.root(load) in self.loop):
                 latest = Pair(load, store)
         return latest
 
     def latest_followed(self) -> Pair:
         """The latest store of the pointers that a loop follows, and its load."""
-        rows, writers, latest = self.rows, self.writers, Pair(0, 0)
+        rows = self.rows
+        writers = self.writers
+        latest = Pair(0, 0)
         for hanging in self.facts.loops:
-            loads = [n for n in rows.last_rows(hanging.last, FOLLOWED_ROWS) if rows.flags[n] & LOADS and n >= hanging.first]
+            loads = [n for n in rows.last_rows(hanging.last, FOLLOWED_ROWS)
+                     if rows.flags[n] & LOADS and n >= hanging.first]
             for n in loads:
                 pointer = writers.first[n]
                 while pointer and rows.code_of(pointer).move:
@@ -168,13 +209,19 @@ class Ranking:
         return latest
 
     def judge(self, item: Suspect, history: History) -> None:
-        rows, writers, load, store = self.rows, self.writers, item.load, item.store
+        rows = self.rows
+        writers = self.writers
+        load = item.load
+        store = item.store
         if rows.hart[store] != rows.hart[load]:
             item.sign(OTHER_HART, "another hart stored it")
-        stored, loaded = rows.code_of(store), rows.code_of(load)
-        if stored.kind == STORE and loaded.kind != AMO and stored.width < loaded.width and not self.is_copied(load, history):
+        stored = rows.code_of(store)
+        loaded = rows.code_of(load)
+        if (stored.kind == STORE and loaded.kind != AMO and stored.width < loaded.width
+                and not self.is_copied(load, history)):
             item.misplaced = True
-            item.sign(NARROW, f"stored as {SIZES[0][stored.width]}, loaded as a {SIZES[1][loaded.width]}")
+            item.sign(NARROW,
+                      f"stored as {SIZES[0][stored.width]}, loaded as a {SIZES[1][loaded.width]}")
         if load in history.decided:
             item.why.append("it decided the way to here")
         self.judge_rarity(item)
@@ -193,25 +240,31 @@ class Ranking:
         return load in history.parent and self.rows.code_of(history.parent[load].row).kind == STORE
 
     def times_of(self, item: Suspect) -> int:
-        """How often the load got its word from the line that stored it: a compiler may have made several stores of it. 0 if
-        another store gave the rest of the word later."""
+        """How often the load got its word from the line that stored it: a compiler may have made
+        several stores of it. 0 if another store gave the rest of the word later."""
         line = self.places.line(self.rows.code_of(item.store).pc)
         stores = self.writers.givers(item.load)
         self.places.fetch({self.rows.codes[at].pc for at in stores})
-        return sum(times for at, times in stores.items() if self.places.line(self.rows.codes[at].pc) == line)
+        return sum(times for at, times in stores.items()
+                   if self.places.line(self.rows.codes[at].pc) == line)
 
     def judge_rarity(self, item: Suspect) -> None:
         rows = self.rows
         times = self.times_of(item)
         whole = self.loads.get(rows.code[item.load], 1)
         if times and whole >= 4 and times * 10 <= whole:
-            item.sign(RARITY * math.log10(whole / times), f"rare here: {number(times)} of {number(whole)} loads")
-        elif whole >= COMMON_ROWS and times == whole and not self.history.is_far(item.load, item.store):
+            item.sign(RARITY * math.log10(whole / times),
+                      f"rare here: {number(times)} of {number(whole)} loads")
+        elif (whole >= COMMON_ROWS and times == whole
+              and not self.history.is_far(item.load, item.store)):
             item.sign(-COMMON, f"so in all {number(whole)} loads here")
 
     def judge_distance(self, item: Suspect) -> None:
-        """Near stores are let in on the chain of values, but for a register that its function put aside."""
-        rows, load, store = self.rows, item.load, item.store
+        """Near stores are let in on the chain of values, but for a register that its function put
+        aside."""
+        rows = self.rows
+        load = item.load
+        store = item.store
         distance = load - store
         if rows.is_spill(load, store):
             item.shown = False

@@ -1,10 +1,12 @@
 #!/usr/bin/env python3
-"""Leaves out one rule of `why` at a time: of how many programs is the guilty line still among the first three suspects?
+"""Leaves out one rule of `why` at a time: of how many programs is the guilty line still among the
+first three suspects?
 
     ablation.py [WORD..]        all rules, or those whose names begin with one of these words
 
-Each line is a rule, the share of all programs and of each group without it, and which go out (-) or come in (+). One in
-brackets is named by a fact as well: an error of memory, a lock in a deadlock, what is said of the fault."""
+Each line is a rule, the share of all programs and of each group without it, and which go out (-) or
+come in (+). One in brackets is named by a fact as well: an error of memory, a lock in a deadlock,
+what is said of the fault."""
 import copy
 import importlib
 import multiprocessing
@@ -25,9 +27,11 @@ from crashes_test import FIRST, rank_of              # noqa: E402
 
 AT_ONCE = 2
 ALL = "all rules"
-PURE = (facts, "Loop"), (facts, "setting"), (locks, "accesses"), (memory_use, "Blocks"), (suspects, "Ways")
+PURE = ((facts, "Loop"), (facts, "setting"), (locks, "accesses"),
+        (memory_use, "Blocks"), (suspects, "Ways"))
 SEARCHES = (analysis, "History"), (suspects, "History")
-FINDERS = (suspects, "unlocked"), (suspects, "deadlock_suspects"), (suspects, "failed_stores"), (suspects, "unset")
+FINDERS = ((suspects, "unlocked"), (suspects, "deadlock_suspects"),
+           (suspects, "failed_stores"), (suspects, "unset"))
 
 
 def nothing(*_given):
@@ -38,8 +42,9 @@ def no_row(*_given):
     return 0
 
 
-# Of each rule the words that the report says of it, if there are any, and the names of `companion` that leave it out, with
-# their values then. A program of which the words aren't said at all isn't tried again.
+# Of each rule the words that the report says of it, if there are any, and the names of `companion`
+# that leave it out, with their values then. A program of which the words aren't said at all isn't
+# tried again.
 RULES: Dict[str, Any] = {
     ALL: ("", {}),
     "another hart": ("another hart stored it", {"suspects.OTHER_HART": 0}),
@@ -56,17 +61,20 @@ RULES: Dict[str, Any] = {
     "given back": ("given back", {"memory_use.GIVEN_BACK": 0}),
     "copies of a pointer": ("a copy of the pointer", {"memory_use.MemoryUse.add_copy": nothing}),
     "an older pointer": ("the pointer is older", {"memory_use.MemoryUse.kept_pointer": no_row}),
-    "all of memory": ("", {"memory_use.MemoryUse.judge": nothing, "memory_use.MemoryUse.given_back_twice": nothing}),
+    "all of memory": ("", {"memory_use.MemoryUse.judge": nothing,
+                           "memory_use.MemoryUse.given_back_twice": nothing}),
     "equal bounds": ("which are the same", {"branches.EQUAL": 0}),
     "a usual way": ("it went this way", {"branches.USUAL": 0}),
     "compared lost bits": ("comes from a part of", {"branches.cut_behind": nothing}),
     "ran before any call": ("before any call", {"branches.ENTRY": 0}),
-    "who stored what it compared": ("a value that it compared was", {"branches.add_stored": nothing}),
+    "who stored what it compared": ("a value that it compared was",
+                                    {"branches.add_stored": nothing}),
     "branches": ("", {"suspects.branch_suspects": nothing}),
     "an access without its lock": ("their hart holds", {"suspects.unlocked": nothing}),
     "locks in a circle": ("each other's locks", {"suspects.deadlock_suspects": nothing}),
     "a deep recursion": ("calls deep", {"recursion.DEEP": 1 << 32}),
-    "a failed store-conditional": ("a store-conditional failed", {"suspects.failed_stores": nothing}),
+    "a failed store-conditional": ("a store-conditional failed",
+                                   {"suspects.failed_stores": nothing}),
     "never stored by its call": ("from before this call", {"suspects.unset": nothing}),
     "what a library formatted": ("", {"analysis.begin_at_argument": nothing}),
     "branches just before": ("", {"history.MOST_BRANCHES": 0}),
@@ -81,15 +89,18 @@ RULES: Dict[str, Any] = {
 
 def key_of(value):
     """What tells an argument from others: all else belongs to the one program."""
-    return tuple(value) if isinstance(value, list) else frozenset(value) if isinstance(value, set) else value if isinstance(value, int) else None
+    return (tuple(value) if isinstance(value, list) else frozenset(value) if isinstance(value, set)
+            else value if isinstance(value, int) else None)
 
 
 def remember(module, name, given_out=lambda result: result):
     """A function of a module gives its first result again for the same arguments."""
-    function, known = getattr(module, name), {}
+    function = getattr(module, name)
+    known = {}
 
     def again(*given, **named):
-        key = tuple(map(key_of, given)), tuple((word, key_of(value)) for word, value in sorted(named.items()))
+        key = tuple(map(key_of, given)), tuple((word, key_of(value))
+                                               for word, value in sorted(named.items()))
         if key not in known:
             known[key] = function(*given, **named)
         return given_out(known[key])
@@ -111,13 +122,15 @@ def set_all(changes):
 
 
 def analysed(asked, program):
-    return analysis.analysis_of(asked, "", facts.asked_byte(program.wrong) if program.wrong else None)
+    return analysis.analysis_of(asked, "",
+                                facts.asked_byte(program.wrong) if program.wrong else None)
 
 
 def place(found, program):
     """The guilty line's place among the suspects, or 0."""
     lines = report.suspect_lines(found, report.MORE_SUSPECTS)
-    return rank_of(program.guilty, "SUSPECTS\n" + "".join("  %s\n" % line for line in lines) + "END")
+    return rank_of(program.guilty,
+                   "SUSPECTS\n" + "".join("  %s\n" % line for line in lines) + "END")
 
 
 def is_fact(found, program):
@@ -127,7 +140,8 @@ def is_fact(found, program):
 
 
 def tried(given):
-    """A program's name, {rule: the guilty line's place}, and whether a fact names it. What no rule changes is done once."""
+    """A program's name, {rule: the guilty line's place}, and whether a fact names it. What no rule
+    changes is done once."""
     name, rules = given
     program = crashes()[name]
     for module, word in PURE:
@@ -139,9 +153,11 @@ def tried(given):
 
 
 def without(asked, program, rules):
-    searches = [(module, word, remember(module, word), getattr(module, word)) for module, word in SEARCHES]
+    searches = [(module, word, remember(module, word), getattr(module, word))
+                for module, word in SEARCHES]
     first = analysed(asked, program)
-    said = "\n".join(word for item in first.suspects for word in item.why + [extra.words for extra in item.extra])
+    said = "\n".join(word for item in first.suspects
+                     for word in item.why + [extra.words for extra in item.extra])
     got = dict.fromkeys(rules, place(first, program))
     named = is_fact(first, program)
     analysis.read_trace = lambda *_given, **_named: first.trace
@@ -160,7 +176,8 @@ def without(asked, program, rules):
 
 
 def main(words):
-    rules = [ALL] + [rule for rule in RULES if rule != ALL and (not words or rule.startswith(tuple(words)))]
+    rules = [ALL] + [rule for rule in RULES
+                     if rule != ALL and (not words or rule.startswith(tuple(words)))]
     programs = crashes()
     with multiprocessing.Pool(AT_ONCE, maxtasksperchild=1) as pool:
         tries = list(pool.imap_unordered(tried, [(name, rules) for name in programs], 1))
@@ -175,7 +192,8 @@ def main(words):
     for rule in rules:
         shares = [sum(programs[name].group == group for name in good[rule]) for group in groups]
         changed = told("-", good[ALL] - good[rule]) + told("+", good[rule] - good[ALL])
-        print("| %s | %d | %s | %s |" % (rule, len(good[rule]), " | ".join(map(str, shares)), " ".join(changed)))
+        print("| %s | %d | %s | %s |" % (rule, len(good[rule]),
+                                         " | ".join(map(str, shares)), " ".join(changed)))
     print("By a fact %d: %s" % (len(named), " ".join(sorted(named))))
     print("By either %d" % len(good[ALL] | named))
 

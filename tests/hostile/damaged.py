@@ -1,10 +1,12 @@
 #!/usr/bin/env python3
-"""Records examples with format 2 by drawn settings, and gives the logs to all that read them, whole and damaged.
+"""Records examples with format 2 by drawn settings, and gives the logs to all that read them, whole
+and damaged.
 
-tests/hostile/damaged.py [SECONDS [SEED]]: as many recordings as there is time for (60). Each log has to be taken by `check`,
-`list` and `joint`, `audit` has to agree, `convert` and `salvage` have to save the same bytes, and drawn intervals have
-to be replayed to their last row. Then a bit after the head is flipped: what `salvage` saves has to be taken by
-`joint`, and drawn intervals of it by `replay`; or nothing is left. It ends with 1 if a call was answered otherwise.
+tests/hostile/damaged.py [SECONDS [SEED]]: as many recordings as there is time for (60). Each log
+has to be taken by `check`, `list` and `joint`, `audit` has to agree, `convert` and `salvage` have
+to save the same bytes, and drawn intervals have to be replayed to their last row. Then a bit after
+the head is flipped: what `salvage` saves has to be taken by `joint`, and drawn intervals of it by
+`replay`; or nothing is left. It ends with 1 if a call was answered otherwise.
 """
 
 import collections
@@ -32,7 +34,9 @@ SETTINGS = {
 
 class Calls:
     def __init__(self, folder):
-        self.folder, self.ended, self.wrong = folder, collections.Counter(), []
+        self.folder = folder
+        self.ended = collections.Counter()
+        self.wrong = []
 
     def read(self, name):
         return tried.read(f"{self.folder}/{name}")
@@ -41,7 +45,8 @@ class Calls:
         tried.write(f"{self.folder}/{name}", data)
 
     def run(self, what, wanted, *words):
-        """Runs a command, which has to end with one of some statuses, and returns its status and its lines."""
+        """Runs a command, which has to end with one of some statuses, and returns its status and
+        its lines."""
         ran = subprocess.run([PROGRAM, *map(str, words)], cwd=self.folder, capture_output=True)
         self.ended[what, ran.returncode] += 1
         if ran.returncode not in wanted:
@@ -64,7 +69,8 @@ def give(draw, calls, elf, seed):
     chosen["ways2"] = draw.choice((1, 2, 16)) if chosen["sets2"] else 0
     options = [word for name, value in chosen.items() for word in (f"--{name}", value)]
     options += ["--format", 2, "--memory", 2_097_152, "--input", "IN"]
-    if calls.run("record", (0, 10, 11), "record", "--seed", seed, *options, elf, "LOG", "BOOK")[0] not in (0, 10, 11):
+    if calls.run("record", (0, 10, 11), "record", "--seed", seed, *options, elf, "LOG",
+                 "BOOK")[0] not in (0, 10, 11):
         return
     calls.run("check", (0,), "check", "LOG")
     calls.run("joint", (0,), "joint", "LOG", elf)
@@ -81,12 +87,15 @@ def give(draw, calls, elf, seed):
     calls.write("DAMAGED", data)
     if calls.run("salvage, damaged", (0, 19), "salvage", "DAMAGED", "NEW")[0] == 0:
         calls.run("joint, salvaged", (0,), "joint", "NEW", elf)
-        replay_some(draw, calls, "replay, salvaged", "NEW", elf, calls.run("list, salvaged", (0,), "list", "NEW")[1])
+        replay_some(draw, calls, "replay, salvaged", "NEW", elf,
+                    calls.run("list, salvaged", (0,), "list", "NEW")[1])
 
 
 def main(words):
     seconds, seed = map(int, [*words, *("60", "1")[len(words) :]])
-    elves, until, number = sorted(glob.glob(f"{TOP}/examples/*.elf")), time.time() + seconds, 0
+    elves = sorted(glob.glob(f"{TOP}/examples/*.elf"))
+    until = time.time() + seconds
+    number = 0
     with tempfile.TemporaryDirectory() as folder:
         calls = Calls(folder)
         calls.write("IN", b"some words here\n" * 40)

@@ -1,9 +1,24 @@
-"""Makes debug information entry by entry, good or not, and puts it into ELF files (DWARF 5, sections 7.5 and 6.2)."""
+"""Makes debug information entry by entry, good or not, and puts it into ELF files (DWARF 5,
+sections 7.5 and 6.2)."""
 import struct
 
-ADDRESS, DATA2, DATA4, DATA8, STRING, DATA1, SIGNED, STRP, UDATA, REF4, SEC_OFFSET, EXPRESSION, FLAG, REF_ADDRESS, SIGNATURE = (
-    0x01, 0x05, 0x06, 0x07, 0x08, 0x0b, 0x0d, 0x0e, 0x0f, 0x13, 0x17, 0x18, 0x19, 0x10, 0x20)
-SIZES = {ADDRESS: 4, DATA2: 2, DATA4: 4, DATA8: 8, DATA1: 1, STRP: 4, SEC_OFFSET: 4, REF_ADDRESS: 4, SIGNATURE: 8}
+ADDRESS = 0x01
+DATA2 = 0x05
+DATA4 = 0x06
+DATA8 = 0x07
+STRING = 0x08
+DATA1 = 0x0b
+SIGNED = 0x0d
+STRP = 0x0e
+UDATA = 0x0f
+REF4 = 0x13
+SEC_OFFSET = 0x17
+EXPRESSION = 0x18
+FLAG = 0x19
+REF_ADDRESS = 0x10
+SIGNATURE = 0x20
+SIZES = {ADDRESS: 4, DATA2: 2, DATA4: 4, DATA8: 8, DATA1: 1, STRP: 4, SEC_OFFSET: 4,
+         REF_ADDRESS: 4, SIGNATURE: 8}
 UNIT_HEAD = 12
 
 
@@ -25,11 +40,15 @@ def sleb(number):
 
 
 class Die:
-    """An entry: its tag, [(name, form, value)], and the entries below. The value of REF4 can be an entry."""
+    """An entry: its tag, [(name, form, value)], and the entries below. The value of REF4 can be an
+    entry."""
     __slots__ = "tag", "told", "below", "at"
 
     def __init__(self, tag, *told, below=()):
-        self.tag, self.told, self.below, self.at = tag, list(told), list(below), 0
+        self.tag = tag
+        self.told = list(told)
+        self.below = list(below)
+        self.at = 0
 
     def tell(self, name, form, value):
         """Says a thing of the entry in place of what it said before."""
@@ -49,7 +68,10 @@ class Unit:
     """The sections of one unit, from its entry on."""
 
     def __init__(self, top, version=5, address_size=4, kind=1):
-        self.abbreviations, self.abbrev, self.body, self.references = {}, bytearray(), bytearray(), []
+        self.abbreviations = {}
+        self.abbrev = bytearray()
+        self.body = bytearray()
+        self.references = []
         self.put(top)
         for place, die in self.references:
             struct.pack_into("<I", self.body, place, die.at)
@@ -76,7 +98,8 @@ class Unit:
         if key not in self.abbreviations:
             self.abbreviations[key] = len(self.abbreviations) + 1
             names = b"".join(uleb(name) + uleb(form) for name, form in key[2])
-            self.abbrev += uleb(self.abbreviations[key]) + uleb(die.tag) + bytes([key[1]]) + names + b"\0\0"
+            self.abbrev += (uleb(self.abbreviations[key]) + uleb(die.tag) + bytes([key[1]])
+                            + names + b"\0\0")
         return self.abbreviations[key]
 
     def value(self, form, value):
@@ -99,37 +122,49 @@ class Lines:
     """A line table. What is to be forged of its head is a name of `head`."""
 
     def __init__(self, folders, files, rows, **head):
-        self.folders, self.files, self.rows = folders, files, rows
-        self.head = {"version": 5, "address_size": 4, "instruction": 1, "operations": 1, "is_statement": 1, "base": -3, "range": 12, "opcodes": 13,
+        self.folders = folders
+        self.files = files
+        self.rows = rows
+        self.head = {"version": 5, "address_size": 4, "instruction": 1,
+                     "operations": 1, "is_statement": 1, "base": -3, "range": 12, "opcodes": 13,
                      "folders": len(folders), "files": len(files), **head}
 
     def made(self):
         said = self.head
         lengths = bytes((0, 1, 1, 1, 1, 0, 0, 0, 1, 0, 0, 1))
-        body = struct.pack("<BBBbBB", said["instruction"], said["operations"], said["is_statement"], said["base"], said["range"], said["opcodes"]) + lengths
-        body += b"\1\1\x08" + uleb(said["folders"]) + b"".join(name + b"\0" for name in self.folders)
-        body += b"\2\1\x08\2\x0b" + uleb(said["files"]) + b"".join(name + b"\0" + bytes([place]) for name, place in self.files)
-        head = struct.pack("<HBBI", said["version"], said["address_size"], 0, said.get("head_length", len(body))) + body
+        body = struct.pack("<BBBbBB", said["instruction"], said["operations"], said["is_statement"],
+                           said["base"], said["range"], said["opcodes"]) + lengths
+        body += b"\1\1\x08" + uleb(said["folders"]) + b"".join(name + b"\0"
+                                                               for name in self.folders)
+        body += b"\2\1\x08\2\x0b" + uleb(said["files"]) + b"".join(name + b"\0" + bytes([place])
+                                                                   for name, place in self.files)
+        head = struct.pack("<HBBI", said["version"], said["address_size"], 0,
+                           said.get("head_length", len(body))) + body
         return struct.pack("<I", said.get("length", len(head) + len(self.rows))) + head + self.rows
 
 
 def line_rows(begin, count, step=4):
     """A line for each step of code from an address on."""
-    return b"\0\5\2" + struct.pack("<I", begin) + (b"\3\1\2" + uleb(step) + b"\1") * count + b"\2\4\0\1\1"
+    return b"\0\5\2" + struct.pack("<I",
+                                   begin) + (b"\3\1\2" + uleb(step) + b"\1") * count + b"\2\4\0\1\1"
 
 
 def with_sections(elf, sections, flags=None):
-    """An ELF file's bytes with these sections in place of its own debug information; `flags` are those of some."""
+    """An ELF file's bytes with these sections in place of its own debug information; `flags` are
+    those of some."""
     first, = struct.unpack_from("<I", elf, 32)
     count, names = struct.unpack_from("<HH", elf, 48)
     heads = [list(struct.unpack_from("<10I", elf, first + 40 * at)) for at in range(count)]
     texts = elf[heads[names][4]:heads[names][4] + heads[names][5]]
     for head in heads:
         if texts[head[0]:].startswith(b".debug_"):
-            head[0], head[1], head[5] = 0, 0, 0
+            head[0] = 0
+            head[1] = 0
+            head[5] = 0
     data = bytearray(elf)
     for name, section in sections.items():
-        heads.append([len(texts), 1, (flags or {}).get(name, 0), 0, len(data), len(section), 0, 0, 1, 0])
+        heads.append([len(texts), 1, (flags or {}).get(name, 0), 0, len(data), len(section), 0, 0,
+                      1, 0])
         texts += name.encode() + b"\0"
         data += section
     heads[names][4:6] = len(data), len(texts)

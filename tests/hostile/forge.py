@@ -1,5 +1,6 @@
-"""Makes logs of both versions and small program files, field by field (docs/FORMAT.md; ELF, "ELF Header" and
-"Program Header"): for the scripts beside it, which give the program files that nobody recorded.
+"""Makes logs of both versions and small program files, field by field (docs/FORMAT.md; ELF, "ELF
+Header" and "Program Header"): for the scripts beside it, which give the program files that nobody
+recorded.
 """
 
 import hashlib
@@ -17,7 +18,12 @@ SETTINGS = {
     "line": 8,
 }
 SIZES = {1: 146, 2: 10, 3: 2, 4: 2, 5: 19, 6: 15}
-LENGTH, CALL, EXIT, GROUP, STOPPED, LIMIT = 1, 2, 3, 4, 5, 7
+LENGTH = 1
+CALL = 2
+EXIT = 3
+GROUP = 4
+STOPPED = 5
+LIMIT = 7
 
 
 def digest(data):
@@ -45,8 +51,8 @@ def log(program, records, dropped=0, **settings):
 
 
 def head2(settings, program, dropped, n):
-    """Returns the 104 bytes before a head's digest; the settings are eleven numbers, the last the format, sets2 and
-    ways2, and the program is a digest."""
+    """Returns the 104 bytes before a head's digest; the settings are eleven numbers, the last the
+    format, sets2 and ways2, and the program is a digest."""
     fields = struct.pack("<IIIQIIIIIIII", 2, *settings)
     return b"BUGNETLG" + fields + program + struct.pack("<QI", dropped, n)
 
@@ -59,7 +65,8 @@ def block(seal, records, before, left):
 
 def cut(records):
     """Returns the records of each block."""
-    blocks, size = [], 4_097
+    blocks = []
+    size = 4_097
     for record in records:
         if size + len(record) > 4_096:
             blocks.append([])
@@ -71,7 +78,9 @@ def cut(records):
 
 def file2(signed, dropped, blocks):
     """Returns the file of a head and the records of each block."""
-    data, before, left = sealed(signed), dropped, sum(len(record) for records in blocks for record in records)
+    data = sealed(signed)
+    before = dropped
+    left = sum(len(record) for records in blocks for record in records)
     for records in blocks:
         left -= sum(map(len, records))
         data += block(data[104:136], b"".join(records), before, left)
@@ -80,14 +89,18 @@ def file2(signed, dropped, blocks):
 
 
 def log2(program, records, dropped=0, later=(1, 0, 0), **settings):
-    """Returns the log file of version 2 with these records' bytes; `later` are format, sets2 and ways2."""
+    """Returns the log file of version 2 with these records' bytes; `later` are format, sets2 and
+    ways2."""
     values = (*{**SETTINGS, **settings}.values(), *later)
-    return file2(head2(values, digest(program), dropped, len(records)), dropped, cut(split(records)))
+    return file2(head2(values, digest(program), dropped, len(records)),
+                 dropped, cut(split(records)))
 
 
 def parts2(data):
-    """Returns the head of 104 bytes and the records' bytes, before and left of each block of an undamaged file."""
-    end, blocks = len(data), []
+    """Returns the head of 104 bytes and the records' bytes, before and left of each block of an
+    undamaged file."""
+    end = len(data)
+    blocks = []
     while end > 136:
         before, left, size = struct.unpack_from("<QII", data, end - 48)
         blocks.insert(0, (data[end - 48 - size : end - 48], before, left))
@@ -105,7 +118,8 @@ def parts(data):
 
 def split(records):
     """Returns records one by one, as far as there are any."""
-    at, found = 0, []
+    at = 0
+    found = []
     while at < len(records) and at + SIZES.get(records[at], 1 << 32) <= len(records):
         found.append(records[at : at + SIZES[records[at]]])
         at += SIZES[records[at]]

@@ -1,4 +1,5 @@
-"""Calls of companions in processes that are forked: python's start, which takes longer than most of what they do, is saved."""
+"""Calls of companions in processes that are forked: python's start, which takes longer than most of
+what they do, is saved."""
 import fcntl
 import importlib
 import os
@@ -17,7 +18,8 @@ for word, (part, _) in call.WORDS.items():      # once, and not in each process
     importlib.import_module(f"companion.{part}.{word}")
 TRACEBACK = 99              # the status of a call that ended by one
 HANGS_S = 600               # by the clock: the processors may be another's
-F_SETPIPE_SZ, LONGEST_ERR = 1031, 1 << 20
+F_SETPIPE_SZ = 1031
+LONGEST_ERR = 1 << 20
 MEMORY = 2 << 30            # of each process, so that one that wants all of it leaves some
 
 
@@ -46,7 +48,8 @@ def nothing():
 
 
 def companion(words, folder, given=os.devnull, prepare=nothing, run=call.main, out=""):
-    """Calls a companion, with a file as its input, and one as its output. The new process begins with `prepare`."""
+    """Calls a companion, with a file as its input, and one as its output. The new process begins
+    with `prepare`."""
     out = out or f"{folder}/out"
     err, writing = os.pipe()
     fcntl.fcntl(writing, F_SETPIPE_SZ, LONGEST_ERR)
@@ -56,7 +59,8 @@ def companion(words, folder, given=os.devnull, prepare=nothing, run=call.main, o
         os.dup2(os.open(given, os.O_RDONLY), 0)
         os.dup2(os.open(out, os.O_WRONLY | os.O_CREAT | os.O_TRUNC, 0o600), 1)
         os.dup2(writing, 2)
-        sys.stdin, sys.stdout, sys.stderr = (open(number, mode, closefd=False) for number, mode in enumerate("rww"))
+        sys.stdin, sys.stdout, sys.stderr = (open(number, mode, closefd=False)
+                                             for number, mode in enumerate("rww"))
         resource.setrlimit(resource.RLIMIT_AS, (MEMORY, MEMORY))
         signal.alarm(HANGS_S)
         try:
@@ -70,4 +74,5 @@ def companion(words, folder, given=os.devnull, prepare=nothing, run=call.main, o
     os.set_blocking(err, False)                 # what it left could have it
     with open(err, "rb") as file:
         said = file.read() or b""
-    return Ended(code_of(status), b"" if out == os.devnull else read(out), said, took.ru_utime + took.ru_stime, took.ru_maxrss << 10)
+    return Ended(code_of(status), b"" if out == os.devnull else read(out), said,
+                 took.ru_utime + took.ru_stime, took.ru_maxrss << 10)

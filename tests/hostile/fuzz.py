@@ -3,29 +3,32 @@
 
 tests/hostile/fuzz.py [COUNT [SEED [PROCESSES [SECONDS]]]], at most so many seconds by the clock
 
-First come all prefixes and all flipped bits of a small log, in version 1 and in version 2, with its digests and with
-renewed ones. The same is done with a small program file and a log made for it. Then come COUNT files (10,000) made from
-recordings of examples/, half of them in version 2:
+First come all prefixes and all flipped bits of a small log, in version 1 and in version 2, with its
+digests and with renewed ones. The same is done with a small program file and a log made for it.
+Then come COUNT files (10,000) made from recordings of examples/, half of them in version 2:
 
 - bits flipped, bytes cut out or put in
 - records left out, doubled, exchanged, put in or changed in a field
 - a prefix of one log with the end of another, or settings changed; with renewed digests or not
-- blocks left out, doubled, exchanged, cut elsewhere, damaged or with other numbers, most with renewed digests
+- blocks left out, doubled, exchanged, cut elsewhere, damaged or with other numbers, most with
+  renewed digests
 - program files with bytes changed, under logs that say their digest
 
-A log is given to `check`, and one of version 2 to `salvage`. One that `check` takes is given to `list`, `replay`,
-`joint`, `debug`, `races`, `slice`, `convert` and, with a drawn list of turns, to `audit`. One that `check` refuses is
-given to one of these. A program file is given to `replay`, `joint`, `debug`, `races`, `slice` and `record`. Each call
-has to end by itself, within SECONDS of processor time and BYTES of memory, with a status that its command has and one
-line on err that fits it. What `check`, `convert` and `salvage` say has to be what tests/hostile/verdict.py says, and the last
-two have to save it.
+A log is given to `check`, and one of version 2 to `salvage`. One that `check` takes is given to
+`list`, `replay`, `joint`, `debug`, `races`, `slice`, `convert` and, with a drawn list of turns, to
+`audit`. One that `check` refuses is given to one of these. A program file is given to `replay`,
+`joint`, `debug`, `races`, `slice` and `record`. Each call has to end by itself, within SECONDS of
+processor time and BYTES of memory, with a status that its command has and one line on err that fits
+it. What `check`, `convert` and `salvage` say has to be what tests/hostile/verdict.py says, and the
+last two have to save it.
 
-With ZELKUMA_CASES the same files are given to the same call in memory, many of them to one process: that variable
-names the built program of the crate program_cases, which does what lines say. Only the recordings come of the
-program itself then. Seconds are those of that process for a call, and bytes are its most in all.
+With ZELKUMA_CASES the same files are given to the same call in memory, many of them to one process:
+that variable names the built program of the crate program_cases, which does what lines say. Only
+the recordings come of the program itself then. Seconds are those of that process for a call, and
+bytes are its most in all.
 
-It prints how many calls of each command had which status, the longest and the largest. It ends with 1 if a call was
-answered otherwise; such a file is kept, and its name and words are printed.
+It prints how many calls of each command had which status, the longest and the largest. It ends with
+1 if a call was answered otherwise; such a file is kept, and its name and words are printed.
 """
 
 import collections
@@ -45,7 +48,9 @@ import tried
 import verdict
 from tried import PROGRAM, TOP
 
-SECONDS, BYTES, PATIENCE = 1.0, 64 << 20, 30
+SECONDS = 1.0
+BYTES = 64 << 20
+PATIENCE = 30
 CASES = os.environ.get("ZELKUMA_CASES")
 KEPT = "/tmp/fuzz-kept"
 LOADING = {0, 6, 7, 8}
@@ -62,12 +67,15 @@ STATUSES = {
     "audit": LOADING | {16, 17},
     "record": {0, 6, 10, 11},
 }
-DIGEST, N = "[0-9a-f]{64}", r"\d+"
+DIGEST = "[0-9a-f]{64}"
+N = r"\d+"
 MARK = rf"{N} \w+ [0-9a-f]{{8}}"
 SAID = {
     6: rf"elf: (NotElf|NotRv32|NotStatic|NeedsCompressed|NeedsE|NoSegment|(TooMany|Outside) {N}|"
     rf"(Truncated|SegmentsTouch) {N} {N}|EntryOutside [0-9a-f]{{8}})",
-    7: rf"log: (BadMagic|(Short|BadVersion|BadBlock|BadRecord) {N}|(BadHead|LengthDiffers|BadOrder) {N} {N}|"
+    7: r"log: "
+    rf"(BadMagic|(Short|BadVersion|BadBlock|BadRecord) {N}|(BadHead|LengthDiffers|BadOrder) "
+    rf"{N} {N}|"
     rf"DigestDiffers {DIGEST} {DIGEST})",
     8: f"program differs: {DIGEST} {DIGEST}",
     14: f"no interval {N} {N}",
@@ -82,7 +90,8 @@ SAID = {
 }
 LINES = {status: re.compile(f"bugnet: {line}\n") for status, line in SAID.items()}
 NO_VARIABLES: Dict[str, str] = {}
-NUMBERS = (0, 1, 2, 3, 7, 8, 9, 255, 2**16, 2**31, 2**32 - 1, 2**40, 2**41, 2**41 + 1, 2**63, 2**64 - 1)
+NUMBERS = (0, 1, 2, 3, 7, 8, 9, 255, 2**16, 2**31, 2**32 - 1, 2**40, 2**41, 2**41 + 1,
+           2**63, 2**64 - 1)
 # The fields of a record by its tag: place and size.
 FIELDS = {
     1: ((1, 1), (2, 8), (10, 8), (18, 4), (22, 4), (58, 4), (62, 4)),
@@ -107,7 +116,8 @@ class Calls:
         self.folder = folder
         self.statuses = collections.Counter()
         self.kinds = collections.Counter()
-        self.longest, self.largest = (0.0, ""), (0, "")
+        self.longest = (0.0, "")
+        self.largest = (0, "")
         self.wrong = []
         os.makedirs(folder, exist_ok=True)
 
@@ -140,7 +150,8 @@ class Calls:
         ended, used = self.spawn(words, out)
         with open(self.path("err"), encoding="utf-8") as file:
             line = file.read()
-        seconds, size = used.ru_utime + used.ru_stime, used.ru_maxrss << 10
+        seconds = used.ru_utime + used.ru_stime
+        size = used.ru_maxrss << 10
         self.longest = max(self.longest, (seconds, " ".join(words)))
         self.largest = max(self.largest, (size, " ".join(words)))
         if not os.WIFEXITED(ended):
@@ -167,7 +178,8 @@ class Calls:
 
     def kept(self):
         """Returns the files that a call was given, by name."""
-        return {name: self.read(name) for name in ("LOG", "ELF", "BOOK", "NEW", "keys") if os.path.exists(self.path(name))}
+        return {name: self.read(name) for name in ("LOG", "ELF", "BOOK", "NEW", "keys")
+                if os.path.exists(self.path(name))}
 
     def tell(self, words, what):
         os.makedirs(KEPT, exist_ok=True)
@@ -187,7 +199,8 @@ class Cases(Calls):
 
     def __init__(self, folder):
         super().__init__(folder)
-        self.files, self.count = {}, 0
+        self.files = {}
+        self.count = 0
         self.begin()
 
     def begin(self):
@@ -212,11 +225,13 @@ class Cases(Calls):
                 self.say(f"bytes {name} {data[at : at + 8192].hex()}")
 
     def answer(self):
-        """Returns what was printed for the lines so far, whose last one asks for a file that isn't there."""
+        """Returns what was printed for the lines so far, whose last one asks for a file that isn't
+        there."""
         self.count += 1
         self.say(f"size none-{self.count}")
         self.process.stdin.flush()
-        lines, last = [], f"none-{self.count} is not there\n".encode()
+        lines = []
+        last = f"none-{self.count} is not there\n".encode()
         for line in self.process.stdout:
             if line.endswith(last):
                 lines.append(line[: -len(last)])
@@ -237,7 +252,8 @@ class Cases(Calls):
         with open(f"/proc/{self.process.pid}/status", encoding="utf-8") as file:
             size = next(int(line.split()[1]) << 10 for line in file if line.startswith("VmHWM"))
         used = (int(fields[11]) + int(fields[12])) / self.TICK
-        before, self.used = self.used, used
+        before = self.used
+        self.used = used
         return used - before, size
 
     def run(self, *words, out=None):
@@ -253,11 +269,13 @@ class Cases(Calls):
         _, counted, text = printed.split(b"\n", 2)
         status, _, size = map(int, re.findall(rb"\d+", counted)[:3])
         at = len(text) - size
-        self.out, line = text[:at], text[at:].decode()
+        self.out = text[:at]
+        line = text[at:].decode()
         self.statuses[words[0], status] += 1
         self.look(words, status, line)
         seconds, most = self.took()
-        self.longest, self.largest = max(self.longest, (seconds, " ".join(words))), (most, "")
+        self.longest = max(self.longest, (seconds, " ".join(words)))
+        self.largest = (most, "")
         if seconds > SECONDS or most > BYTES:
             self.tell(words, f"took {seconds:.2f} seconds, {most} bytes with all before")
         return status, line
@@ -269,23 +287,29 @@ class Cases(Calls):
 # ---- what is made of recordings
 
 
-# Of each example: how many harts, the limit, the interval, and how many bytes of records are kept. Then options for
-# format 2, which is saved in version 2, in logs that are small enough for the guard.
+# Of each example: how many harts, the limit, the interval, and how many bytes of records are kept.
+# Then options for format 2, which is saved in version 2, in logs that are small enough for the
+# guard.
 RECORDED = ((1, 400, 100, 4096), (2, 300, 60, 2048), (4, 120, 50, 1024), (2, 400, 12, 12_000))
 SMALL_CACHE = ("--log-size", "16384", "--sets", "1", "--ways", "1", "--line", "1")
-RECORDED2 = (("--harts", "16", "--limit", "250", *SMALL_CACHE), ("--limit", "2000", "--sets2", "2", "--ways2", "1", *SMALL_CACHE))
+RECORDED2 = (("--harts", "16", "--limit", "250", *SMALL_CACHE),
+             ("--limit", "2000", "--sets2", "2", "--ways2", "1", *SMALL_CACHE))
 
 
 def recorded(calls, elf, *words):
     """Returns the log of a recording; nothing where the program doesn't take the words."""
     names = elf, calls.path("LOG"), calls.path("BOOK")
-    ended, _ = calls.spawn(("record", *map(str, words), "--input", calls.path("input"), *names), "/dev/null")
-    return calls.read("LOG") if os.WIFEXITED(ended) and os.WEXITSTATUS(ended) in (0, 10, 11) else b""
+    ended, _ = calls.spawn(("record", *map(str, words), "--input", calls.path("input"), *names),
+                           "/dev/null")
+    return (calls.read("LOG") if os.WIFEXITED(ended) and os.WEXITSTATUS(ended) in (0, 10, 11)
+            else b"")
 
 
 def recordings(folder):
-    """Returns logs with their program files, of each example by several settings, version by version."""
-    calls, found = Calls(folder), {1: [], 2: []}
+    """Returns logs with their program files, of each example by several settings, version by
+    version."""
+    calls = Calls(folder)
+    found = {1: [], 2: []}
     calls.write("keys", b"")
     calls.write("input", b"a few words, and a few words more\n")
     for name in sorted(os.listdir(f"{TOP}/examples")):
@@ -304,7 +328,8 @@ def recordings(folder):
 
 
 def kept_end(data, size):
-    """Returns a log of the last records of one, so many bytes at most: as if the others were given up."""
+    """Returns a log of the last records of one, so many bytes at most: as if the others were given
+    up."""
     head, records = forge.parts(data)
     left = forge.split(records)
     dropped = struct.unpack_from("<Q", head, 80)[0]
@@ -320,7 +345,8 @@ def resealed(head, records):
 
 
 def other_number(draw, old, size):
-    return draw.choice((*NUMBERS, old + 1, old - 1, old * 2, draw.getrandbits(64))) % 2 ** (8 * size)
+    return draw.choice((*NUMBERS, old + 1, old - 1, old * 2,
+                        draw.getrandbits(64))) % 2 ** (8 * size)
 
 
 def put(data, at, size, draw):
@@ -342,7 +368,8 @@ def flipped(draw, data):
 
 def patched(draw, data):
     """Returns the data with some bytes left out, put in or exchanged."""
-    first, size = draw.randrange(len(data)), draw.randrange(40)
+    first = draw.randrange(len(data))
+    size = draw.randrange(40)
     new = draw.choice((b"", draw.randbytes(size), data[:size]))
     return data[:first] + new + data[first + draw.choice((0, size)) :]
 
@@ -382,12 +409,14 @@ def changed_records(draw, records, others):
 
 def spoiled(draw, data, way, flip):
     """Returns a file with flipped bits, with other bytes, or a prefix of it."""
-    return flip(draw, data) if way == 0 else patched(draw, data) if way == 1 else data[: draw.randrange(len(data))]
+    return (flip(draw, data) if way == 0 else patched(draw, data) if way == 1
+            else data[: draw.randrange(len(data))])
 
 
 def mutated_log(draw, pool):
     """Returns a log that was made of recordings, and the program file of one of them."""
-    (data, elf), (other, _) = draw.choice(pool[1]), draw.choice(pool[1])
+    data, elf = draw.choice(pool[1])
+    other, _ = draw.choice(pool[1])
     head, records = forge.parts(data)
     way = draw.randrange(10)
     if way < 3:
@@ -409,7 +438,8 @@ def mutated_log(draw, pool):
 
 
 def sealed2(signed, blocks):
-    """Returns a file of version 2 with renewed digests: blocks are records' bytes, before and left."""
+    """Returns a file of version 2 with renewed digests: blocks are records' bytes, before and
+    left."""
     data = forge.sealed(signed)
     return data + b"".join(forge.block(data[104:136], *each) for each in blocks)
 
@@ -418,7 +448,8 @@ def version2(data):
     """Returns an undamaged log of version 1 in version 2."""
     settings = (*struct.unpack_from("<IIQIIIII", data, 12), 1, 0, 0)
     dropped, n = struct.unpack_from("<QI", data, 80)
-    return forge.file2(forge.head2(settings, data[48:80], dropped, n), dropped, forge.cut(forge.split(data[92:-32])))
+    return forge.file2(forge.head2(settings, data[48:80], dropped, n), dropped,
+                       forge.cut(forge.split(data[92:-32])))
 
 
 def records_of(blocks):
@@ -430,11 +461,15 @@ def cut_anew(draw, records, dropped):
     if draw.random() < 0.5:
         parts = [b"".join(each) for each in forge.cut(records)]
     else:
-        data, parts = b"".join(records), []
+        data = b"".join(records)
+        parts = []
         while data and len(parts) < 30:
             size = draw.choice((1, 100, 146, 1_000, 4_095, 4_096, 4_097, draw.randrange(1, 4_097)))
-            parts, data = [*parts, data[:size]], data[size:]
-    blocks, before, left = [], dropped, sum(map(len, parts))
+            parts = [*parts, data[:size]]
+            data = data[size:]
+    blocks = []
+    before = dropped
+    left = sum(map(len, parts))
     for part in parts:
         left -= len(part)
         blocks.append((part, before, left))
@@ -454,7 +489,8 @@ def changed_blocks(draw, blocks):
     elif way == 2:
         found[place : place + 2] = reversed(found[place : place + 2])
     elif way == 3:
-        found.insert(place, (b"", draw.choice((0, 50)), sum(len(each[0]) for each in found[place:])))
+        found.insert(place,
+                     (b"", draw.choice((0, 50)), sum(len(each[0]) for each in found[place:])))
     elif place < len(found):
         records, before, left = found[place]
         before = other_number(draw, before, 8) if way == 4 else before
@@ -465,7 +501,8 @@ def changed_blocks(draw, blocks):
 
 def with_left(blocks):
     """Returns blocks each of which says how many bytes are left after it."""
-    left, found = sum(len(records) for records, _, _ in blocks), []
+    left = sum(len(records) for records, _, _ in blocks)
+    found = []
     for records, before, _ in blocks:
         left -= len(records)
         found.append((records, before, left))
@@ -473,7 +510,8 @@ def with_left(blocks):
 
 
 def rebuilt(draw, signed, records):
-    """Returns a file of version 2 with other records, blocks or numbers, all its digests renewed."""
+    """Returns a file of version 2 with other records, blocks or numbers, all its digests
+    renewed."""
     dropped = struct.unpack_from("<Q", signed, 92)[0]
     if draw.random() < 0.3:
         dropped = draw.choice((0, 1, 2**64 - 1))
@@ -489,13 +527,16 @@ def rebuilt(draw, signed, records):
 
 def damaged(draw, data):
     """Returns a file with some bits flipped at a place that is more often near its end."""
-    place = draw.choice((draw.randrange(len(data)), len(data) - 1 - draw.randrange(min(len(data), 100))))
+    place = draw.choice((draw.randrange(len(data)),
+                         len(data) - 1 - draw.randrange(min(len(data), 100))))
     return with_flip(data, 8 * place + draw.randrange(8))
 
 
 def mutated_log2(draw, pool):
-    """Returns a log of version 2 that was made of recordings, and the program file of one of them."""
-    (data, elf), (other, _) = draw.choice(pool[2]), draw.choice(pool[2])
+    """Returns a log of version 2 that was made of recordings, and the program file of one of
+    them."""
+    data, elf = draw.choice(pool[2])
+    other, _ = draw.choice(pool[2])
     way = draw.randrange(10)
     if way < 3:
         return spoiled(draw, data, way, damaged), elf
@@ -529,9 +570,11 @@ def keys_of(draw):
     """Returns commands of a session."""
     lines = []
     for _ in range(draw.randrange(12)):
-        line = draw.choice(("step", "step 3", "step 1000000", "go", "regs", "where", "hart %d", "break %x",
-                            "unbreak %x", "word %x", "quit", "", "?", "x" * draw.choice((255, 256, 257))))
-        number = draw.choice((draw.randrange(9), 0x10000 + 4 * draw.randrange(256), draw.getrandbits(32)))
+        line = draw.choice(("step", "step 3", "step 1000000", "go", "regs", "where", "hart %d",
+                            "break %x", "unbreak %x", "word %x", "quit", "", "?",
+                            "x" * draw.choice((255, 256, 257))))
+        number = draw.choice((draw.randrange(9),
+                              0x10000 + 4 * draw.randrange(256), draw.getrandbits(32)))
         lines.append(line % number if "%" in line else line)
     return "\n".join(lines).encode() + draw.choice((b"\n", b""))
 
@@ -546,23 +589,27 @@ def headers_of(data):
 
 
 def interval_words(draw, headers):
-    """Returns the words for one of a log's intervals, or for one that isn't there, and a count of it."""
+    """Returns the words for one of a log's intervals, or for one that isn't there, and a count of
+    it."""
     hart, interval, count = (draw.choice(NUMBERS) for _ in range(3))
     if headers and draw.random() < 0.9:
         entry = draw.choice(headers)
-        hart, (interval, count) = entry[1], struct.unpack_from("<QQ", entry, 2)
+        hart = entry[1]
+        interval, count = struct.unpack_from("<QQ", entry, 2)
         count += draw.choice((0, 1, 5, 20, 100))
     return str(hart), str(interval), str(count)
 
 
 def readers(draw, calls, headers):
     """Returns the words of each command but `check`, `convert` and `salvage` that reads a log."""
-    calls.write("BOOK", bytes(draw.choice((0, 0, 0, 1, draw.randrange(9))) for _ in range(draw.randrange(200))))
+    calls.write("BOOK", bytes(draw.choice((0, 0, 0, 1, draw.randrange(9)))
+                              for _ in range(draw.randrange(200))))
     names = calls.path("LOG"), calls.path("ELF")
     place = interval_words(draw, headers)
     most = draw.choice((1, 5, 1_000, 1_000_000))
     audit = ("audit", *names, calls.path("BOOK"))
-    with_program = [("replay", *names, *place[:2]), ("joint", *names), ("debug", *names), ("races", *names, str(most))]
+    with_program = [("replay", *names, *place[:2]), ("joint", *names), ("debug", *names),
+                    ("races", *names, str(most))]
     return [("list", names[0]), *with_program, ("slice", *names, *place), audit]
 
 
@@ -637,12 +684,14 @@ def give_small(calls):
         if bit < 8 * (len(data) - 32):
             give_log(draw, calls, forge.sealed(changed[:-32]), elf)
     give_small2(calls, draw, version2(data), elf)
-    for changed in [*(with_flip(elf, bit) for bit in range(8 * len(elf))), *(elf[:length] for length in range(len(elf)))]:
+    for changed in [*(with_flip(elf, bit) for bit in range(8 * len(elf))),
+                    *(elf[:length] for length in range(len(elf)))]:
         give_elf(draw, calls, data[:48] + forge.digest(changed) + data[80:-32], changed)
 
 
 def give_small2(calls, draw, data, elf):
-    """Gives all prefixes and flipped bits of a small log in version 2, as they are and sealed again."""
+    """Gives all prefixes and flipped bits of a small log in version 2, as they are and sealed
+    again."""
     signed, blocks = forge.parts2(data)
     for length in range(len(data)):
         give_log(draw, calls, data[:length], elf)
@@ -680,7 +729,8 @@ def told(counted):
     """Prints what came of all calls."""
     _, statuses, kinds, longest, largest, wrong = counted
     for command in STATUSES:
-        each = [f"{status}: {count}" for (word, status), count in sorted(statuses.items()) if word == command]
+        each = [f"{status}: {count}"
+                for (word, status), count in sorted(statuses.items()) if word == command]
         print(f"{command}: {', '.join(each)}")
     for (status, kind), count in sorted(kinds.items()):
         print(f"  {status} {kind}: {count}")
@@ -692,21 +742,29 @@ def told(counted):
 
 def merged(results, until):
     """Returns what came of all files whose results come before a moment."""
-    files, statuses, kinds, longest, largest, wrong = 0, collections.Counter(), collections.Counter(), (0.0, ""), (0, ""), []
+    files = 0
+    statuses = collections.Counter()
+    kinds = collections.Counter()
+    longest = (0.0, "")
+    largest = (0, "")
+    wrong = []
     for one in results:
         files += one[0]
         statuses += one[1]
         kinds += one[2]
-        longest, largest = max(longest, one[3]), max(largest, one[4])
+        longest = max(longest, one[3])
+        largest = max(largest, one[4])
         wrong += one[5]
-        print(f"{files} files, {sum(statuses.values())} calls, {len(wrong)} answered otherwise", file=sys.stderr, flush=True)
+        print(f"{files} files, {sum(statuses.values())} calls, {len(wrong)} answered otherwise",
+              file=sys.stderr, flush=True)
         if time.time() > until:
             break
     return files, statuses, kinds, longest, largest, wrong
 
 
 def main(words):
-    count, seed, processes, seconds = map(int, [*words, *("10000", "1", "1", "1000000")[len(words) :]])
+    count, seed, processes, seconds = map(int,
+                                          [*words, *("10000", "1", "1", "1000000")[len(words) :]])
     step = 2000
     shares = [(first, min(first + step, count), seed) for first in range(0, max(count, 1), step)]
     with multiprocessing.Pool(processes) as pool:

@@ -1,8 +1,10 @@
 #!/usr/bin/env python3
-"""Counts the calls of functions that companions make for inputs of doubling sizes: logs of triage, harts, switches of BOOK, and lines,
-entries and members of debug information. (Of rows tests/companions/package/doubling_test.py measures the time.)
+"""Counts the calls of functions that companions make for inputs of doubling sizes: logs of triage,
+harts, switches of BOOK, and lines, entries and members of debug information. (Of rows
+tests/companions/package/doubling_test.py measures the time.)
 
-tests/hostile/growth.py [FAMILY..]. Twice the size may take at most MOST times the calls, an exponent of 1.1. It ends with 1 if one takes more."""
+tests/hostile/growth.py [FAMILY..]. Twice the size may take at most MOST times the calls, an
+exponent of 1.1. It ends with 1 if one takes more."""
 import math
 import os
 import random
@@ -21,8 +23,11 @@ from companion.call import program                            # noqa: E402
 from companion.recording.elf import Elf                       # noqa: E402
 
 MOST = 2 ** 1.1
-MOST_OF_PAIRS = 2 ** 2.1        # races of each two harts are told, so many at most as `race` asks of the program
-ELF, BUFFERS, COUNTER = f"{TOP}/tests/crashes/use_after_free.elf", f"{TOP}/examples/buffers.elf", f"{TOP}/examples/counter.elf"
+# Races of each two harts are told, so many at most as `race` asks of the program
+MOST_OF_PAIRS = 2 ** 2.1
+ELF = f"{TOP}/tests/crashes/use_after_free.elf"
+BUFFERS = f"{TOP}/examples/buffers.elf"
+COUNTER = f"{TOP}/examples/counter.elf"
 BARRIER = f"{TOP}/tests/crashes/hang_barrier.elf"
 
 
@@ -47,8 +52,10 @@ def counted(folder):
 
 
 def record(folder, name, elf, *options, schedule="bursts:1"):
-    log, book = f"{folder}/{name}", f"{folder}/{name}.book"
-    done = subprocess.run([program.path(), "record", "--format", "2", *options, elf, log, book], stderr=subprocess.PIPE, check=False,
+    log = f"{folder}/{name}"
+    book = f"{folder}/{name}.book"
+    done = subprocess.run([program.path(), "record", "--format", "2", *options, elf, log, book],
+                          stderr=subprocess.PIPE, check=False,
                           env={**os.environ, "ZELKUMA_SCHEDULE": schedule})
     assert done.returncode in (0, 10, 11), done.stderr
     return log, elf, book
@@ -65,7 +72,8 @@ def logs(folder, size):
 
 def harts(folder, size):
     """Each of which does as much."""
-    log, elf, book = record(folder, f"harts{size}", COUNTER, "--harts", str(size), "--limit", "3000")
+    log, elf, book = record(folder, f"harts{size}", COUNTER, "--harts", str(size),
+                            "--limit", "3000")
     yield from ((word, log, elf) for word in ("why", "race", "view", "bucket", "memory"))
     yield "calls", log, elf, "00010074"
     yield "again", log, elf, book, f"{folder}/again"
@@ -73,7 +81,8 @@ def harts(folder, size):
 
 def switches(folder, size):
     """In as many more rows."""
-    log, elf, book = record(folder, f"switches{size}", BARRIER, "--harts", "4", "--seed", "1", "--limit", str(size))
+    log, elf, book = record(folder, f"switches{size}", BARRIER, "--harts", "4", "--seed",
+                            "1", "--limit", str(size))
     yield from ((word, log, elf, "--book", book) for word in ("why", "race", "view"))
     yield "again", log, elf, book, f"{folder}/again"
 
@@ -95,29 +104,34 @@ def lines(folder, size):
 
 def entries(folder, size):
     good = Good(Elf(ELF), random.Random(1))
-    good.top.below += [Die(0x34, (3, STRING, b"v%d" % at), (0x49, REF4, good.int)) for at in range(size)]
+    good.top.below += [Die(0x34, (3, STRING, b"v%d" % at), (0x49, REF4, good.int))
+                       for at in range(size)]
     return debug_information(folder, f"entries{size}", good)
 
 
 def members(folder, size):
     good = Good(Elf(ELF), random.Random(1))
     big = Die(0x13, (3, STRING, b"big"), (0xb, DATA4, 32768), below=[
-        Die(0xd, (3, STRING, b"m%d" % at), (0x49, REF4, good.draw.choice((good.int, good.pointer))), (0x38, DATA4, 4 * at % 32768)) for at in range(size)])
+        Die(0xd, (3, STRING, b"m%d" % at), (0x49, REF4, good.draw.choice((good.int, good.pointer))),
+            (0x38, DATA4, 4 * at % 32768)) for at in range(size)])
     good.top.below.append(big)
     for die in good.data:
         die.tell(0x49, REF4, big)
     return debug_information(folder, f"members{size}", good)
 
 
-# The sizes of which the second is the double: what doesn't grow with them has to be small beside what does.
-FAMILIES = ((logs, 16), (harts, 8), (switches, 10000), (lines, 8000), (entries, 8000), (members, 4000))
+# The sizes of which the second is the double: what doesn't grow with them has to be small beside
+# what does.
+FAMILIES = ((logs, 16), (harts, 8), (switches, 10000), (lines, 8000),
+            (entries, 8000), (members, 4000))
 
 
 def main(words):
     wrong = 0
     with tempfile.TemporaryDirectory() as folder:
         os.environ["XDG_CACHE_HOME"] = folder
-        for family, size in FAMILIES if not words else [each for each in FAMILIES if each[0].__name__ in words]:
+        for family, size in FAMILIES if not words else [each for each in FAMILIES
+                                                        if each[0].__name__ in words]:
             for few, many in zip(family(folder, size), family(folder, 2 * size)):
                 told = []
                 for words in few, many:
@@ -125,10 +139,11 @@ def main(words):
                     assert ended.status in (0, 16), (words, ended)
                     told.append(int(read(f"{folder}/count")))
                 exponent = math.log2(told[1] / told[0])
-                is_wrong = told[1] > (MOST_OF_PAIRS if (family, few[0]) == (harts, "race") else MOST) * told[0]
+                is_wrong = told[1] > (MOST_OF_PAIRS if (family, few[0]) == (harts, "race")
+                                      else MOST) * told[0]
                 wrong += is_wrong
-                print(f"{family.__name__}, {few[0]}: {told[0]} calls, of twice as many {told[1]}: exponent {exponent:.2f}"
-                      + " is too much" * is_wrong, flush=True)
+                print(f"{family.__name__}, {few[0]}: {told[0]} calls, of twice as many {told[1]}: "
+                      f"exponent {exponent:.2f}" + " is too much" * is_wrong, flush=True)
     sys.exit(1 if wrong else 0)
 
 

@@ -1,13 +1,14 @@
 #!/usr/bin/env python3
-"""Calls every word under limits of memory, open files, processes, the length of files and processor time, without /proc or /dev/shm,
-and as another user in folders of others.
+"""Calls every word under limits of memory, open files, processes, the length of files and processor
+time, without /proc or /dev/shm, and as another user in folders of others.
 
 tests/hostile/limits.py [EACH [SEED]]: of each word so many drawn limits (all).
 
-A call has to end with a status of docs/COMMANDS.md, and with lines on err if that isn't 0, 10 or 11; without a traceback, unless
-python itself can't begin. An older target is as it was, or a whole new one. Nothing is left beside it, in the temporary folder, or
-running. Without time the system ends the call by KILL; of a script that can open no file it
-says 127. It ends with 1 if a call ended otherwise."""
+A call has to end with a status of docs/COMMANDS.md, and with lines on err if that isn't 0, 10 or
+11; without a traceback, unless python itself can't begin. An older target is as it was, or a whole
+new one. Nothing is left beside it, in the temporary folder, or running. Without time the system
+ends the call by KILL; of a script that can open no file it says 127. It ends with 1 if a call ended
+otherwise."""
 import collections
 import ctypes
 import os
@@ -27,39 +28,57 @@ from companion.call import kinds, program                     # noqa: E402
 from companion.questions import export                        # noqa: E402
 from companion.triage import forms                            # noqa: E402
 
-SCRIPT, CRASHES, NOBODY = f"{TOP}/zelkuma", f"{TOP}/tests/crashes", 65534
-ELF, BUFFERS = f"{CRASHES}/use_after_free.elf", f"{TOP}/examples/buffers.elf"
-LAST_STATUS, KILLED, NO_LIBRARY = 23, 137, 127
+SCRIPT = f"{TOP}/zelkuma"
+CRASHES = f"{TOP}/tests/crashes"
+NOBODY = 65534
+ELF = f"{CRASHES}/use_after_free.elf"
+BUFFERS = f"{TOP}/examples/buffers.elf"
+LAST_STATUS = 23
+KILLED = 137
+NO_LIBRARY = 127
 OF_RUN = 124, 139           # what `run` passes on of a program that hangs or crashes
 MIB = 1 << 20
-LIMITS = {"memory": (resource.RLIMIT_AS, [size * MIB for size in (4, 8, 12, 16, 24, 32, 40, 48, 64, 96, 128, 256)]),
-          "files": (resource.RLIMIT_NOFILE, [3, 4, 5, 6, 7, 8, 10, 12, 16, 24]), "processes": (resource.RLIMIT_NPROC, [0, 1, 2, 3, 4, 6]),
-          "length": (resource.RLIMIT_FSIZE, [0, 1, 100, 1000, 4096, 20000]), "time": (resource.RLIMIT_CPU, [0, 1])}
-CLONE_NEWNS, MS_REC, MS_PRIVATE = 0x20000, 0x4000, 1 << 18
-WORDS_OF_PROGRAM = "record", "list", "check", "replay", "joint", "audit", "races", "slice", "convert", "salvage", "demo", "debug"
+LIMITS = {"memory": (resource.RLIMIT_AS,
+                     [size * MIB for size in (4, 8, 12, 16, 24, 32, 40, 48, 64, 96, 128, 256)]),
+          "files": (resource.RLIMIT_NOFILE, [3, 4, 5, 6, 7, 8, 10, 12, 16, 24]),
+          "processes": (resource.RLIMIT_NPROC, [0, 1, 2, 3, 4, 6]),
+          "length": (resource.RLIMIT_FSIZE, [0, 1, 100, 1000, 4096, 20000]),
+          "time": (resource.RLIMIT_CPU, [0, 1])}
+CLONE_NEWNS = 0x20000
+MS_REC = 0x4000
+MS_PRIVATE = 1 << 18
+WORDS_OF_PROGRAM = ("record", "list", "check", "replay", "joint", "audit", "races", "slice",
+                    "convert", "salvage", "demo", "debug")
 
 
 def calls(folder, new):
     """{word: (its words, {target: kind})}"""
-    log, book = f"{folder}/LOG", f"{folder}/LOG.book"
-    harts, both = [f"{folder}/HARTS", BUFFERS, f"{folder}/HARTS.book"], [log, ELF]
-    found = {word: ([word, *both], {}) for word in ("why", "bucket", "output", "race", "memory", "gdb", "joint", "debug")}
-    found.update({"view": (["view", *both, "--with-questions"], {}), "names": (["names", ELF, "main"], {}), "history": (["history", *both, "arena"], {}),
-                  "calls": (["calls", *both, "main"], {}), "find": (["find", *both, "1"], {}), "compare": (["compare", log, *both], {}),
-                  "at": (["at", *both, "use_after_free.c:31", "1"], {}), "list": (["list", log], {}), "check": (["check", log], {}),
-                  "replay": (["replay", *both, "0", "0"], {}), "audit": (["audit", *both, book], {}), "races": (["races", *both, "9"], {}),
-                  "slice": (["slice", *both, "0", "0", "9"], {}), "demo": (["demo", "7"], {})})
+    log = f"{folder}/LOG"
+    book = f"{folder}/LOG.book"
+    harts = [f"{folder}/HARTS", BUFFERS, f"{folder}/HARTS.book"]
+    both = [log, ELF]
+    found = {word: ([word, *both], {})
+             for word in ("why", "bucket", "output", "race", "memory", "gdb", "joint", "debug")}
+    found.update(
+        {"view": (["view", *both, "--with-questions"], {}), "names": (["names", ELF, "main"], {}),
+         "history": (["history", *both, "arena"], {}), "calls": (["calls", *both, "main"], {}),
+         "find": (["find", *both, "1"], {}), "compare": (["compare", log, *both], {}),
+         "at": (["at", *both, "use_after_free.c:31", "1"], {}), "list": (["list", log], {}),
+         "check": (["check", log], {}), "replay": (["replay", *both, "0", "0"], {}),
+         "audit": (["audit", *both, book], {}), "races": (["races", *both, "9"], {}),
+         "slice": (["slice", *both, "0", "0", "9"], {}), "demo": (["demo", "7"], {})})
     found["triage"] = ["triage", log, "--elfs", CRASHES, "--html", new], {new: kinds.PAGE}
     found["triage --json"] = ["triage", log, "--elfs", CRASHES, "--json", new], {new: forms.JSON}
     found["why --html"] = ["why", *both, "--html", new], {new: kinds.PAGE}
-    found.update({f"export {option}": (["export", *both, option, new], {new: kind}) for option, kind in export.KINDS.items()})
+    found.update({f"export {option}": (["export", *both, option, new], {new: kind})
+                  for option, kind in export.KINDS.items()})
     pair = {new: kinds.LOG, new + ".book": kinds.TURNS}
     found["record"] = ["record", "--harts", "4", "--seed", "3", BUFFERS, new, new + ".book"], pair
     found["again"] = ["again", *both, book, new], {new: kinds.LOG}
     found.update({word: ([word, log, new], {new: kinds.LOG}) for word in ("convert", "salvage")})
     found["shrink"] = ["shrink", *harts, new, new + ".book"], pair
-    found["seeds"] = ["seeds", "--only", "sleepers", "20", "20", "--", "--format", "2", "--harts", "4", "--limit", "100000", BUFFERS, new,
-                      new + ".book"], pair
+    found["seeds"] = ["seeds", "--only", "sleepers", "20", "20", "--", "--format", "2", "--harts",
+                      "4", "--limit", "100000", BUFFERS, new, new + ".book"], pair
     found["run"] = ["run", new + ".elf"], {new + ".log": kinds.LOG, new + ".book": kinds.TURNS}
     return found
 
@@ -80,8 +99,9 @@ def without(place):
     def prepare():
         os.setsid()
         system = ctypes.CDLL(None, use_errno=True)
-        if system.unshare(CLONE_NEWNS) or system.mount(b"none", b"/", None, MS_REC | MS_PRIVATE, None) \
-                or system.mount(b"none", place.encode(), b"tmpfs", 0, None):
+        if (system.unshare(CLONE_NEWNS)
+                or system.mount(b"none", b"/", None, MS_REC | MS_PRIVATE, None)
+                or system.mount(b"none", place.encode(), b"tmpfs", 0, None)):
             os._exit(forked.TRACEBACK)
     return prepare
 
@@ -113,18 +133,24 @@ def running(session):
 
 class Tries:
     def __init__(self, folder):
-        self.folder, self.here, self.temporary = folder, f"{folder}/here", f"{folder}/temporary"
+        self.folder = folder
+        self.here = f"{folder}/here"
+        self.temporary = f"{folder}/temporary"
         for name in (self.here, self.temporary):
             os.mkdir(name, 0o777)
             os.chmod(name, 0o777)
         os.chmod(folder, 0o755)
         for name, words in (("LOG", [ELF]), ("HARTS", ["--harts", "4", BUFFERS])):
-            subprocess.run([program.path(), "record", "--format", "2", *words, f"{folder}/{name}", f"{folder}/{name}.book"],
-                           env={**os.environ, "ZELKUMA_SCHEDULE": "sleeper:20"}, stderr=subprocess.DEVNULL, check=False)
+            subprocess.run([program.path(), "record", "--format", "2", *words,
+                            f"{folder}/{name}", f"{folder}/{name}.book"],
+                           env={**os.environ, "ZELKUMA_SCHEDULE": "sleeper:20"},
+                           stderr=subprocess.DEVNULL, check=False)
             os.chmod(f"{folder}/{name}", 0o644)
             os.chmod(f"{folder}/{name}.book", 0o644)
         self.calls = calls(folder, f"{self.here}/new")
-        self.old, self.wrong, self.counts = {"LOG": read(f"{folder}/LOG"), "BOOK": read(f"{folder}/LOG.book")}, [], collections.Counter()
+        self.old = {"LOG": read(f"{folder}/LOG"), "BOOK": read(f"{folder}/LOG.book")}
+        self.wrong = []
+        self.counts = collections.Counter()
         os.environ.update(TMPDIR=self.temporary, XDG_CACHE_HOME=f"{folder}/cache", HOME=folder)
 
     def fresh(self, targets, sticky):
@@ -134,7 +160,8 @@ class Tries:
         os.chmod(self.here, 0o1777 if sticky else 0o777)
         write(f"{self.here}/new.elf", read(ELF))
         os.chmod(f"{self.here}/new.elf", 0o755)
-        old = {target: self.old["LOG" if kind is kinds.LOG else "BOOK"] for target, kind in targets.items() if kind in (kinds.LOG, kinds.TURNS)}
+        old = {target: self.old["LOG" if kind is kinds.LOG else "BOOK"]
+               for target, kind in targets.items() if kind in (kinds.LOG, kinds.TURNS)}
         for target, data in old.items():
             write(target, data)
             os.chmod(target, 0o666)
@@ -150,7 +177,8 @@ class Tries:
             os.write(pipe[1], str(os.getpid()).encode())
 
         pipe = os.pipe()
-        ended = forked.companion(words, self.folder, prepare=begin, run=script if words[0] in WORDS_OF_PROGRAM else forked.call.main,
+        ended = forked.companion(words, self.folder, prepare=begin,
+                                 run=script if words[0] in WORDS_OF_PROGRAM else forked.call.main,
                                  out=os.devnull)
         os.set_blocking(pipe[0], False)
         try:
@@ -160,8 +188,10 @@ class Tries:
         for end in pipe:
             os.close(end)
         own = {"run": OF_RUN}.get(word, ()) + ((NO_LIBRARY,) if what == "files 3" else ())
-        is_fine = (ended.status <= LAST_STATUS or ended.status in own) and (ended.status in (0, 10, 11) or bool(ended.err))
-        if not is_fine and not (may_be_killed and ended.status in (KILLED, 128 + signal.SIGXCPU)) or ended.has_traceback:
+        is_fine = ((ended.status <= LAST_STATUS or ended.status in own)
+                   and (ended.status in (0, 10, 11) or bool(ended.err)))
+        if (not is_fine and not (may_be_killed and ended.status in (KILLED, 128 + signal.SIGXCPU))
+                or ended.has_traceback):
             told.append(f"status {ended.status}: {ended.err[-400:].decode(errors='replace')}")
         until = time.monotonic() + 10
         while self.left(targets, session) and time.monotonic() < until:
@@ -170,7 +200,8 @@ class Tries:
         for target, kind in targets.items():
             if target in old and not os.path.exists(target):
                 told.append(f"{os.path.basename(target)} is lost")
-            elif os.path.exists(target) and os.path.getsize(target) and read(target) != old.get(target) and not kind.fits(target):
+            elif (os.path.exists(target) and os.path.getsize(target)
+                  and read(target) != old.get(target) and not kind.fits(target)):
                 told.append(f"{os.path.basename(target)} isn't whole")
         self.counts[f"{ended.status}"] += 1
         if told:
@@ -179,26 +210,32 @@ class Tries:
 
     def left(self, targets, session):
         names = {os.path.basename(target) for target in targets} | {"new.elf"}
-        return sorted({*os.listdir(self.here)} - names) + os.listdir(self.temporary) + (running(session) if session else [])
+        return (sorted({*os.listdir(self.here)} - names) + os.listdir(self.temporary)
+                + (running(session) if session else []))
 
 
 def settings():
     """(what, prepare, whether KILL may come, whether the folder is sticky)"""
     for what, (number, values) in LIMITS.items():
-        yield from ((f"{what} {value}", limited(number, value), what == "time", False) for value in values)
+        yield from ((f"{what} {value}", limited(number, value), what == "time", False)
+                    for value in values)
     if not os.geteuid():
-        yield from ((f"without {place}", without(place), False, False) for place in ("/proc", "/dev/shm"))
-        yield from (("another user's files" + ", sticky" * sticky, another_user, False, sticky) for sticky in (False, True))
+        yield from ((f"without {place}", without(place), False, False)
+                    for place in ("/proc", "/dev/shm"))
+        yield from (("another user's files" + ", sticky" * sticky, another_user, False, sticky)
+                    for sticky in (False, True))
 
 
 def main(words):
-    every, draw = list(settings()), random.Random(int(words[1]) if len(words) > 1 else 1)
+    every = list(settings())
+    draw = random.Random(int(words[1]) if len(words) > 1 else 1)
     with tempfile.TemporaryDirectory() as folder:
         tries = Tries(folder)
         for word in tries.calls:
             for setting in draw.sample(every, min(len(every), int(words[0]))) if words else every:
                 tries.one(word, *setting)
-    print(", ".join(f"status {status}: {count}" for status, count in sorted(tries.counts.items())) + f"; {len(tries.wrong)} calls ended otherwise")
+    print(", ".join(f"status {status}: {count}" for status, count in sorted(tries.counts.items()))
+          + f"; {len(tries.wrong)} calls ended otherwise")
     sys.exit(1 if tries.wrong else 0)
 
 

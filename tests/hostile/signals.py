@@ -1,16 +1,19 @@
 #!/usr/bin/env python3
 """Ends each word that can last by INT, TERM and HUP, wherever it is, and looks at what it leaves.
 
-tests/hostile/signals.py [all | COUNT [SEED]]: each word, each signal, at six moments of what the word takes undisturbed, and as
-it begins to save; or so many drawn calls of each word (1). Every second signal comes to all processes of the call, as Ctrl-C does.
+tests/hostile/signals.py [all | COUNT [SEED]]: each word, each signal, at six moments of what the
+word takes undisturbed, and as it begins to save; or so many drawn calls of each word (1). Every
+second signal comes to all processes of the call, as Ctrl-C does.
 
-A call has to end with 130, 143 or 129, and without a traceback, but for INT in the few milliseconds in which python itself begins. No
-process of it runs on, and nothing is left beside its targets, in the temporary folder neither. A target is as it was, or a whole one;
-LOG and BOOK that are both new belong together. If the call was done before the signal came, its status is its own.
+A call has to end with 130, 143 or 129, and without a traceback, but for INT in the few milliseconds
+in which python itself begins. No process of it runs on, and nothing is left beside its targets, in
+the temporary folder neither. A target is as it was, or a whole one; LOG and BOOK that are both new
+belong together. If the call was done before the signal came, its status is its own.
 
-Bound: the call, but for `run`, takes at most half a second more of processor time, with all of its processes, by one try of three. By the clock it
-has ten minutes, since other processes may have the processors. Those that took longer than half a second by the clock are
-counted. It ends with 1 if a call ended otherwise.
+Bound: the call, but for `run`, takes at most half a second more of processor time, with all of its
+processes, by one try of three. By the clock it has ten minutes, since other processes may have the
+processors. Those that took longer than half a second by the clock are counted. It ends with 1 if a
+call ended otherwise.
 """
 import collections
 import contextlib
@@ -34,13 +37,19 @@ from companion.questions import export                        # noqa: E402
 from companion.triage import forms                            # noqa: E402
 
 STATUSES = {signal.SIGINT: 130, signal.SIGTERM: 143, signal.SIGHUP: 129}
-SCRIPT, CRASHES = f"{TOP}/zelkuma", f"{TOP}/tests/crashes"
-HANG, BUFFERS = f"{CRASHES}/hang.elf", f"{TOP}/examples/buffers.elf"
+SCRIPT = f"{TOP}/zelkuma"
+CRASHES = f"{TOP}/tests/crashes"
+HANG = f"{CRASHES}/hang.elf"
+BUFFERS = f"{TOP}/examples/buffers.elf"
 MOMENTS = (0, 0.2, 0.4, 0.6, 0.8, 0.95)         # of what a word takes
 SAVING = 2                                      # the moment at which it begins to save
-HANGS, QUIET, SOON = 600, 2, 0.5                # seconds
+# Seconds
+HANGS = 600
+QUIET = 2
+SOON = 0.5
 TRIES = 3
-FEWER = 5                                       # the share of the rows that drawn calls have: so they take less than a second
+# The share of the rows that drawn calls have: so they take less than a second
+FEWER = 5
 LARGE = ("--format", "2", "--log-size", "256M", "--sets", "1", "--ways", "1", "--line", "1")
 TICKS = os.sysconf("SC_CLK_TCK")
 
@@ -58,11 +67,15 @@ def saves(words, *targets):
 
 def recordings(folder, share):
     """Makes the logs that the words are given: of few and of many rows, and of four harts."""
-    made = (("few", "--limit", str(1500000 // share), HANG), ("many", *LARGE, *many_rows(share), HANG), ("harts", "--harts", "4", BUFFERS))
+    made = (("few", "--limit", str(1500000 // share), HANG),
+            ("many", *LARGE, *many_rows(share), HANG), ("harts", "--harts", "4", BUFFERS))
     for name, *words in made:
-        schedule = {"ZELKUMA_SCHEDULE": "sleeper:20"} if name == "harts" else {"ZELKUMA_SCHEDULE": "bursts:1"}
-        done = subprocess.run([SCRIPT, "record", "--format", "2", *[word for word in words if word not in ("--format", "2")],
-                               f"{folder}/{name}", f"{folder}/{name}.book"], stderr=subprocess.PIPE, env={**os.environ, **schedule}, check=False)
+        schedule = ({"ZELKUMA_SCHEDULE": "sleeper:20"} if name == "harts"
+                    else {"ZELKUMA_SCHEDULE": "bursts:1"})
+        done = subprocess.run([SCRIPT, "record", "--format",
+                               "2", *[word for word in words if word not in ("--format", "2")],
+                               f"{folder}/{name}", f"{folder}/{name}.book"], stderr=subprocess.PIPE,
+                              env={**os.environ, **schedule}, check=False)
         assert os.path.exists(f"{folder}/{name}.book"), done.stderr
 
 
@@ -72,31 +85,43 @@ def many_rows(share):
 
 def calls(folder, new, share):
     """{name: Word}"""
-    few, many, harts = ([f"{folder}/{name}", elf] for name, elf in (("few", HANG), ("many", HANG), ("harts", BUFFERS)))
-    found = {word: Word([word, *few], {}) for word in ("why", "race", "view", "bucket", "output", "memory", "gdb")}
+    few, many, harts = ([f"{folder}/{name}", elf]
+                        for name, elf in (("few", HANG), ("many", HANG), ("harts", BUFFERS)))
+    found = {word: Word([word, *few], {})
+             for word in ("why", "race", "view", "bucket", "output", "memory", "gdb")}
     found["debug"] = Word(["debug", *few], {})
-    found.update({word: Word([word, *many, *more], {}) for word, more in (("joint", ()), ("races", ("9",)), ("audit", (f"{folder}/many.book",)))})
+    found.update({word: Word([word, *many, *more], {}) for word, more
+                  in (("joint", ()), ("races", ("9",)), ("audit", (f"{folder}/many.book",)))})
     found["replay"] = Word(["replay", *many, "0", "1"], {})
-    found["check"], found["list"] = Word(["check", many[0]], {}), Word(["list", many[0]], {})
-    found.update({word: Word([word, *few, asked], {}) for word, asked in (("history", "timers"), ("find", "12345"), ("calls", "fire"))})
+    found["check"] = Word(["check", many[0]], {})
+    found["list"] = Word(["list", many[0]], {})
+    found.update({word: Word([word, *few, asked], {})
+                  for word, asked in (("history", "timers"), ("find", "12345"), ("calls", "fire"))})
     found["at"] = Word(["at", *few, "hang.c:28", "timers"], {})
-    found["run"] = Word(["run", new + ".elf", "--", "--limit", str(3000000 // share)], {new + ".log": kinds.LOG, new + ".book": kinds.TURNS})
+    found["run"] = Word(["run", new + ".elf", "--", "--limit", str(3000000 // share)],
+                        {new + ".log": kinds.LOG, new + ".book": kinds.TURNS})
     found["compare"] = Word(["compare", few[0], *few], {})
-    found["triage"] = Word(["triage", folder, "--elfs", CRASHES, "--json", new + ".json"], {new + ".json": forms.JSON})
-    found.update({f"export {option}": Word(["export", *few, option, new + option], {new + option: kind})
-                  for option, kind in export.KINDS.items()})
+    found["triage"] = Word(["triage", folder, "--elfs", CRASHES, "--json", new + ".json"],
+                           {new + ".json": forms.JSON})
+    found.update(
+        {f"export {option}": Word(["export", *few, option, new + option], {new + option: kind})
+         for option, kind in export.KINDS.items()})
     found["why --html"] = Word(["why", *few, "--html", new + ".html"], {new + ".html": kinds.PAGE})
     found["record"] = saves(["record", *LARGE, *many_rows(share), HANG], new, new + ".book")
-    found["record in threads"] = saves(["record", "--format", "2", "--harts", "4", "--limit", str(10000000 // share), f"{CRASHES}/hang_barrier.elf"],
+    found["record in threads"] = saves(["record", "--format", "2", "--harts", "4", "--limit",
+                                        str(10000000 // share), f"{CRASHES}/hang_barrier.elf"],
                                        new, new + ".book")
-    found["record into a pipe"] = saves(["record", "--limit", "2000", HANG], new + ".pipe", new + ".book")
-    found["convert"], found["salvage"] = (saves([word, many[0]], new) for word in ("convert", "salvage"))
+    found["record into a pipe"] = saves(["record", "--limit", "2000", HANG],
+                                        new + ".pipe", new + ".book")
+    found["convert"], found["salvage"] = (saves([word, many[0]], new)
+                                          for word in ("convert", "salvage"))
     found["again"] = saves(["again", *many, f"{folder}/many.book"], new)
     found["shrink"] = saves(["shrink", *harts, f"{folder}/harts.book"], new, new + ".book")
     for options in ((), ("--shrink",), ("--compare",)):
         numbers = ["20", "20"] if options else ["--until", "11", "1", "300"]
         found[" ".join(["seeds", *options])] = saves(
-            ["seeds", *options, "--only", "sleepers", *numbers, "--", "--format", "2", "--harts", "4", "--limit", "1000000", BUFFERS],
+            ["seeds", *options, "--only", "sleepers", *numbers, "--", "--format", "2", "--harts",
+             "4", "--limit", "1000000", BUFFERS],
             new, new + ".book")
     return found
 
@@ -115,8 +140,12 @@ class Call:
     """A word that is under way in a folder of its own."""
 
     def __init__(self, name, word, folder, temporary, old):
-        self.name, self.word, self.folder, self.temporary = name, word, folder, temporary
-        self.old = {target: old.get(kind.name, b"") for target, kind in word.targets.items() if kind.name in old}
+        self.name = name
+        self.word = word
+        self.folder = folder
+        self.temporary = temporary
+        self.old = {target: old.get(kind.name, b"")
+                    for target, kind in word.targets.items() if kind.name in old}
         for entry in os.listdir(folder):
             os.remove(os.path.join(folder, entry))
         for target, data in self.old.items():
@@ -130,13 +159,17 @@ class Call:
                     os.remove(target)
                 os.mkfifo(target)
         self.err = tempfile.TemporaryFile()
-        self.process = subprocess.Popen(["env", "--default-signal=INT,TERM,HUP", SCRIPT, *word.words], stdin=subprocess.PIPE, stdout=subprocess.DEVNULL,
-                                        stderr=self.err, start_new_session=True, env={**os.environ, "TMPDIR": temporary})
+        self.process = subprocess.Popen(
+            ["env", "--default-signal=INT,TERM,HUP", SCRIPT, *word.words], stdin=subprocess.PIPE,
+            stdout=subprocess.DEVNULL, stderr=self.err, start_new_session=True,
+            env={**os.environ, "TMPDIR": temporary})
         self.began = time.monotonic()
 
     def waits(self, moment, takes):
         """Waits for a moment, as long as the call does something."""
-        pid, last, seen = self.process.pid, -1.0, time.monotonic()
+        pid = self.process.pid
+        last = -1.0
+        seen = time.monotonic()
         while is_running(pid):
             now = used(pid)
             if moment == SAVING:
@@ -145,13 +178,15 @@ class Call:
             elif now >= moment * takes:
                 return
             if now > last:
-                last, seen = now, time.monotonic()
+                last = now
+                seen = time.monotonic()
             elif time.monotonic() > seen + QUIET:
                 return
             time.sleep(0.002)
 
     def ends(self):
-        """Its status as a shell tells it, and the processor seconds that it took. KILL ends one that hangs."""
+        """Its status as a shell tells it, and the processor seconds that it took. KILL ends one
+        that hangs."""
         until = time.monotonic() + HANGS
         while True:
             pid, status, took = os.wait4(self.process.pid, os.WNOHANG)
@@ -175,17 +210,21 @@ class Call:
 
     def trouble(self, processes):
         """What is wrong with what it left."""
-        said, until = self.said(), time.monotonic() + 10
-        targets = {os.path.basename(target) + more for target in self.word.targets for more in ("", ".good")} | {"new.elf"}
+        said = self.said()
+        until = time.monotonic() + 10
+        targets = {os.path.basename(target) + more for target in self.word.targets
+                   for more in ("", ".good")} | {"new.elf"}
 
         def left():
             running = [f"process {process}" for process in processes if is_running(process)]
-            return running + sorted({*os.listdir(self.folder)} - targets) + os.listdir(self.temporary)
+            return (running + sorted({*os.listdir(self.folder)} - targets)
+                    + os.listdir(self.temporary))
 
         while left() and time.monotonic() < until:
             time.sleep(0.02)
         found = [f"left: {left()}"] if left() else []
-        found += ["a traceback"] if ("Traceback" in said or "Error" in said) and not self.is_in_start(said) else []
+        found += (["a traceback"] if ("Traceback" in said or "Error" in said)
+                  and not self.is_in_start(said) else [])
         new = []
         for target, kind in self.word.targets.items():
             if os.path.isfile(target) and read(target) != self.old.get(target):
@@ -195,28 +234,36 @@ class Call:
                 found.append(f"{os.path.basename(target)} is lost")
         if len(new) == 2 and not found and len(self.word.targets) == 2:
             elf = next(word for word in self.word.words if word.endswith(".elf"))
-            found += [] if subprocess.run([program.path(), "audit", new[0], elf, new[1]], stdout=subprocess.DEVNULL, check=False).returncode == 0 \
-                else ["LOG and BOOK don't belong together"]
+            found += ([] if subprocess.run([program.path(), "audit", new[0], elf, new[1]],
+                                           stdout=subprocess.DEVNULL, check=False).returncode == 0
+                      else ["LOG and BOOK don't belong together"])
         return found
 
 
 class Sweep:
     def __init__(self, folder, share):
         """Of the rows with which each word takes more than a second the logs have a share."""
-        self.here, self.temporary = f"{folder}/here", f"{folder}/temporary"
+        self.here = f"{folder}/here"
+        self.temporary = f"{folder}/temporary"
         for name in (self.here, self.temporary):
             os.mkdir(name)
         recordings(folder, share)
         self.calls = calls(folder, f"{self.here}/new", share)
-        self.old = {kinds.LOG.name: read(f"{folder}/few"), kinds.TURNS.name: read(f"{folder}/few.book")}
-        self.took, self.wrong, self.counts, self.number = {}, [], collections.Counter(), 0
+        self.old = {kinds.LOG.name: read(f"{folder}/few"),
+                    kinds.TURNS.name: read(f"{folder}/few.book")}
+        self.took = {}
+        self.wrong = []
+        self.counts = collections.Counter()
+        self.number = 0
 
     def start(self, name):
         self.number += 1
-        return Call(name, self.calls[name], self.here, self.temporary, self.old if self.number % 2 else {})
+        return Call(name, self.calls[name], self.here, self.temporary,
+                    self.old if self.number % 2 else {})
 
     def undisturbed(self, name):
-        """The status and the processor seconds of a word that nothing ends; of one that waits for somebody, none and QUIET."""
+        """The status and the processor seconds of a word that nothing ends; of one that waits for
+        somebody, none and QUIET."""
         if name not in self.took:
             call = self.start(name)
             if name in ("gdb", "debug", "record into a pipe"):
@@ -229,16 +276,19 @@ class Sweep:
         return self.took[name]
 
     def one(self, name, number, moment):
-        """One call that a signal ends: what is wrong, and the processor seconds from the signal on."""
+        """One call that a signal ends: what is wrong, and the processor seconds from the signal
+        on."""
         status, takes = self.undisturbed(name)
         call = self.start(name)
         call.waits(moment, takes)
-        processes, before = below(call.process.pid), used(call.process.pid)
+        processes = below(call.process.pid)
+        before = used(call.process.pid)
         came = time.monotonic()
         with contextlib.suppress(ProcessLookupError):
             (os.killpg if self.number // 2 % 2 else os.kill)(call.process.pid, number)
         code, total = call.ends()
-        clock, found = time.monotonic() - came, call.trouble(processes)
+        clock = time.monotonic() - came
+        found = call.trouble(processes)
         in_start = call.is_in_start(call.said())
         self.counts["in python's own start"] += in_start
         if code not in (STATUSES[number], status) and not in_start:
@@ -265,18 +315,22 @@ class Sweep:
 
 
 def main(words):
-    draw, is_all = random.Random(int(words[1]) if len(words) > 1 else 1), words[:1] == ["all"]
+    draw = random.Random(int(words[1]) if len(words) > 1 else 1)
+    is_all = words[:1] == ["all"]
     with tempfile.TemporaryDirectory() as folder:
         sweep = Sweep(folder, 1 if is_all else FEWER)
         every = [(number, moment) for number in STATUSES for moment in (*MOMENTS, SAVING)]
         for name, word in sweep.calls.items():
-            some = every if is_all else draw.sample(every, min(len(every), int(words[0]) if words else 1))
+            some = every if is_all else draw.sample(every,
+                                                    min(len(every), int(words[0]) if words else 1))
             for number, moment in some:
                 if moment != SAVING or word.targets:
                     sweep.tries(name, number, moment)
             status, took = sweep.took.get(name, (None, 0))
-            print(f"{name}: undisturbed " + (f"{took:.1f} s, status {status}" if status is not None else "it waits"), flush=True)
-    print(", ".join(f"{count} {what}" for what, count in sweep.counts.items()) + f"; {len(sweep.wrong)} ended otherwise")
+            print(f"{name}: undisturbed " + (f"{took:.1f} s, status {status}" if status is not None
+                                             else "it waits"), flush=True)
+    print(", ".join(f"{count} {what}" for what, count in sweep.counts.items())
+          + f"; {len(sweep.wrong)} ended otherwise")
     sys.exit(1 if sweep.wrong else 0)
 
 

@@ -1,7 +1,7 @@
 """Says what `check` has to print of a log file, and what `salvage` has to save of one of version 2.
 
-It knows docs/FORMAT.md alone: each refusal in its order, the walk over the blocks, and the seven rules of the order of
-records. tests/hostile/fuzz.py compares the program with it.
+It knows docs/FORMAT.md alone: each refusal in its order, the walk over the blocks, and the seven
+rules of the order of records. tests/hostile/fuzz.py compares the program with it.
 """
 
 import struct
@@ -10,7 +10,10 @@ import forge
 
 FIELDS = (("harts", 1, 8), ("interval", 1, 10**7), ("limit", 1, 2**40), ("log_size", 16_384, 2**28),
           ("memory", 65_536, 2**26), ("sets", 1, 1_024), ("ways", 1, 16), ("line", 1, 16))
-FORMATS, HARTS_OF_FORMAT_2, SETS2, WAYS2 = (1, 2), 16, 4_096, 16
+FORMATS = (1, 2)
+HARTS_OF_FORMAT_2 = 16
+SETS2 = 4_096
+WAYS2 = 16
 REASONS = (1, 2, 3, 4, 5, 7, *range(17, 26))
 GUARD = 6
 
@@ -30,7 +33,8 @@ def settings_of(data):
     for field, ((name, low, high), value) in enumerate(zip(FIELDS, values), 1):
         high = HARTS_OF_FORMAT_2 if name == "harts" and more[0] == 2 else high
         good = low <= value <= high and not (name == "memory" and value % 4_096)
-        refuse(good and not (name in ("sets", "line") and value & (value - 1)), "BadHead", field, value)
+        refuse(good and not (name in ("sets", "line") and value & (value - 1)), "BadHead",
+               field, value)
     check_later_settings(*more)
     return values + more
 
@@ -50,7 +54,8 @@ def is_mark(version, reason, value):
 
 def records_of(data, version):
     """Returns pairs of a place and a record."""
-    at, found = 0, []
+    at = 0
+    found = []
     while at < len(data):
         size = forge.SIZES.get(data[at], 0)
         good = size and at + size <= len(data)
@@ -64,8 +69,11 @@ def records_of(data, version):
 
 class Hart:
     def __init__(self, whole):
-        self.state, self.count, self.number = ("awaiting", 0, 0) if whole else ("unknown", None, None)
-        self.seen, self.last_end, self.has_record = 0, None, False
+        self.state, self.count, self.number = (("awaiting", 0, 0) if whole
+                                               else ("unknown", None, None))
+        self.seen = 0
+        self.last_end = None
+        self.has_record = False
 
     def header(self, record, limit):
         """Returns the lowest rule that a Header breaks, or 0."""
@@ -77,7 +85,9 @@ class Hart:
             return 4
         if not self.seen <= ic <= limit:
             return 5
-        self.state, self.count, self.number = "open", ic, number
+        self.state = "open"
+        self.count = ic
+        self.number = number
         return 0
 
     def edge(self, record, interval, limit):
@@ -98,14 +108,17 @@ class Hart:
             if not low <= ic <= self.count + interval:
                 return 5
         number = self.number + 1 if self.state == "open" else None
-        self.state, self.count, self.number = ("awaiting" if reason in (1, 2, GUARD) else "done", ic, number)
+        self.state = "awaiting" if reason in (1, 2, GUARD) else "done"
+        self.count = ic
+        self.number = number
         self.last_end = ic
         return 0
 
 
 def rule_of(harts, record, interval, limit):
     """Returns the lowest rule that a record breaks, or 0; then the hart continues."""
-    tag, number = record[0], record[1]
+    tag = record[0]
+    number = record[1]
     if number >= len(harts) or (tag == 5 and (record[10] >= len(harts) or record[10] == number)):
         return 1
     hart = harts[number]
@@ -129,7 +142,8 @@ def check_order(records, n, dropped, settings):
     for at, record in records:
         if record[0] == 5:
             last = harts[record[10]].last_end
-            refuse(last is None or struct.unpack_from("<Q", record, 11)[0] < last, "BadOrder", at, 7)
+            refuse(last is None or struct.unpack_from("<Q", record, 11)[0] < last, "BadOrder",
+                   at, 7)
 
 
 # ---- version 2
@@ -147,14 +161,18 @@ def good_block(data, end, seal, n, left):
 
 
 def walk(data, n):
-    """Returns the good blocks from the end back, first to last, each its records, its before and its end; and the
-    place at which the first one begins."""
-    seal, end, left, blocks = forge.digest(data[:104]), len(data), 0, []
+    """Returns the good blocks from the end back, first to last, each its records, its before and
+    its end; and the place at which the first one begins."""
+    seal = forge.digest(data[:104])
+    end = len(data)
+    left = 0
+    blocks = []
     while size := good_block(data, end, seal, n, left):
         start = end - 48 - size
         before = struct.unpack_from("<Q", data, end - 48)[0]
         blocks.insert(0, (data[start : start + size], before, end))
-        end, left = start, left + size
+        end = start
+        left = left + size
     return blocks, end
 
 
@@ -240,10 +258,12 @@ def line_of(said):
     """Returns the line of `check` for what a log says."""
     _, _, dropped, records = said
     headers = sum(1 for record in records if record[0] == 1)
-    return f"ok records {len(records)} intervals {headers} dropped {dropped} bytes {sum(map(len, records))}"
+    return (f"ok records {len(records)} intervals {headers} dropped {dropped} "
+            f"bytes {sum(map(len, records))}")
 
 
 def saved_of(said):
     """Returns the file of version 2 of what a log says."""
     settings, program, dropped, records = said
-    return forge.file2(forge.head2(settings, program, dropped, sum(map(len, records))), dropped, forge.cut(records))
+    return forge.file2(forge.head2(settings, program, dropped, sum(map(len, records))),
+                       dropped, forge.cut(records))

@@ -1,11 +1,13 @@
 #!/usr/bin/env python3
-"""Gives the program the worst files within its limits that are known, and tells what each command takes of them.
+"""Gives the program the worst files within its limits that are known, and tells what each command
+takes of them.
 
-tests/hostile/worst.py [MIB [NAME..]]: logs of so many MiB (64), of all kinds or of those named; a call is stopped after
-SECONDS of processor time. Those of many records are given in version 1 and in version 2. For each call it prints the
-status, the processor time and the most memory, both also for each byte of all files that the call was given. It says
-too whether the memory is within the goal of 20 bytes a byte and 64 MiB.
-Times are measured and not bounded: no clause of the program's contract speaks of time.
+tests/hostile/worst.py [MIB [NAME..]]: logs of so many MiB (64), of all kinds or of those named; a
+call is stopped after SECONDS of processor time. Those of many records are given in version 1 and in
+version 2. For each call it prints the status, the processor time and the most memory, both also for
+each byte of all files that the call was given. It says too whether the memory is within the goal of
+20 bytes a byte and 64 MiB. Times are measured and not bounded: no clause of the program's contract
+speaks of time.
 """
 
 import os
@@ -25,11 +27,15 @@ EXIT_CODE = (0x00500513, 0x05D00893, 0x00000073)
 LOOP = (0x0000006F,)
 # lui s0,0x20; lw t0,0(s0); jal zero,-4
 LOADS = (0x00020437, 0x00042283, 0xFFDFF06F)
-# lui s0,0x20; sw zero,0(s0); addi s0,s0,256; jal zero,-8: a word in each 256 bytes, up to the memory's end
+# lui s0,0x20; sw zero,0(s0); addi s0,s0,256; jal zero,-8: a word in each 256 bytes, up to the
+# memory's end
 STORES = (0x00020437, 0x00042023, 0x10040413, 0xFF9FF06F)
-FIRST_STORE, STRIDE, MEMORY = 0x20000, 256, 2**26
+FIRST_STORE = 0x20000
+STRIDE = 256
+MEMORY = 2**26
 STORES_END = 1 + 3 * ((MEMORY - FIRST_STORE) // STRIDE)
-# The commands that read a log, and their words after it; `slice` is of the last row of hart 0's first interval.
+# The commands that read a log, and their words after it; `slice` is of the last row of hart 0's
+# first interval.
 READERS = {
     "check": (),
     "list": (),
@@ -51,15 +57,18 @@ def sc_records(size):
     """ScOk records, of two bytes each."""
     elf = forge.program(*EXIT_CODE)
     count = (size - 400) // 2
-    return forge.log(elf, forge.begun(0) + forge.sc_ok(0) * count + forge.end(0, 3, forge.EXIT, 5), **GREAT), elf, 2
+    return forge.log(elf, forge.begun(0) + forge.sc_ok(0) * count + forge.end(0, 3, forge.EXIT, 5),
+                     **GREAT), elf, 2
 
 
 def first_loads(size):
     """FirstLoads that no load meets, in an interval of 10,000,000 loads and jumps."""
-    elf, steps = forge.program(*LOADS), 10_000_000
+    elf = forge.program(*LOADS)
+    steps = 10_000_000
     count = (size - 400) // 10
     records = forge.first_load(0, 0, 0) + forge.first_load(0, 2**32 - 1, 0) * count
-    ends = forge.end(0, steps, forge.LENGTH) + forge.header(0, 1, steps, 0x10054) + forge.end(0, steps, forge.STOPPED)
+    ends = (forge.end(0, steps, forge.LENGTH) + forge.header(0, 1, steps, 0x10054)
+            + forge.end(0, steps, forge.STOPPED))
     return forge.log(elf, forge.begun(0) + records + ends, interval=steps, **GREAT), elf, steps - 1
 
 
@@ -67,7 +76,8 @@ def intervals(size):
     """Intervals of one instruction, a Header and an End each."""
     elf = forge.program(*LOOP)
     count = (size - 400) // 161
-    pairs = [forge.header(0, k, k, 0x10054) + forge.end(0, k + 1, forge.LENGTH) for k in range(count)]
+    pairs = [forge.header(0, k, k, 0x10054) + forge.end(0, k + 1, forge.LENGTH)
+             for k in range(count)]
     last = forge.header(0, count, count, 0x10054) + forge.end(0, count, forge.STOPPED)
     return forge.log(elf, b"".join(pairs) + last, interval=1, **GREAT), elf, 0
 
@@ -86,7 +96,8 @@ def edges_into_one(size):
     elf = forge.program(*EXIT_CODE)
     count = (size - 400) // 19
     edges = [forge.edge(0, 0, 1, k) for k in range(count)]
-    return forge.log(elf, b"".join(edges) + forge.end(0, 1, forge.EXIT), dropped=1, harts=2, **GREAT), elf, 0
+    return forge.log(elf, b"".join(edges) + forge.end(0, 1, forge.EXIT), dropped=1,
+                     harts=2, **GREAT), elf, 0
 
 
 def stored_pages(_):
@@ -98,19 +109,25 @@ def stored_pages(_):
 
 def stored_pages_of_8(_):
     """The same of eight harts, of which all but the last wait near their ends for that one."""
-    elf, harts = forge.program(*STORES), 8
+    elf = forge.program(*STORES)
+    harts = 8
     heads = [forge.begun(hart, harts, memory=MEMORY) for hart in range(harts)]
-    edges = [forge.edge(hart, STORES_END - 1, harts - 1, STORES_END - 2) for hart in range(harts - 1)]
+    edges = [forge.edge(hart, STORES_END - 1, harts - 1, STORES_END - 2)
+             for hart in range(harts - 1)]
     ends = [forge.end(hart, STORES_END, 23, MEMORY) for hart in range(harts)]
     records = b"".join(heads + edges + ends)
-    return forge.log(elf, records, harts=harts, interval=10_000_000, memory=MEMORY), elf, STORES_END - 1
+    return (forge.log(elf, records, harts=harts, interval=10_000_000, memory=MEMORY),
+            elf, STORES_END - 1)
 
 
 def shared_range(_):
-    """A program file of 1 MiB whose 64 program headers share one range, and so are 64 MiB of memory."""
-    at, size = 52 + 64 * 32, 2**20
+    """A program file of 1 MiB whose 64 program headers share one range, and so are 64 MiB of
+    memory."""
+    at = 52 + 64 * 32
+    size = 2**20
     sizes = [size] * 63 + [size - 4096]
-    headers = [forge.segment(at, 4096 + size * k, length, length, 7) for k, length in enumerate(sizes)]
+    headers = [forge.segment(at, 4096 + size * k, length, length, 7)
+               for k, length in enumerate(sizes)]
     code = struct.pack("<3I", *EXIT_CODE)
     elf = forge.elf(4096, headers, code + bytes(size - len(code)))
     records = forge.begun(0, pc=4096, memory=MEMORY) + forge.end(0, 3, forge.EXIT, 5)
@@ -118,18 +135,24 @@ def shared_range(_):
 
 
 def chained(_):
-    """A small log of an interval of 10,000,000 instructions of which each second one stands on the one before."""
-    elf, steps = forge.program(*CHAIN), 10_000_000
-    ends = forge.end(0, steps, forge.LENGTH) + forge.header(0, 1, steps, 0x10054) + forge.end(0, steps, forge.STOPPED)
+    """A small log of an interval of 10,000,000 instructions of which each second one stands on the
+    one before."""
+    elf = forge.program(*CHAIN)
+    steps = 10_000_000
+    ends = (forge.end(0, steps, forge.LENGTH) + forge.header(0, 1, steps, 0x10054)
+            + forge.end(0, steps, forge.STOPPED))
     return forge.log(elf, forge.begun(0) + ends, interval=steps, **GREAT), elf, steps - 2
 
 
 def tiny_blocks(size):
-    """A log of version 2 with an ScOk record in each block: all are walked over, and then cut otherwise."""
-    elf, count = forge.program(*EXIT_CODE), size // 50
+    """A log of version 2 with an ScOk record in each block: all are walked over, and then cut
+    otherwise."""
+    elf = forge.program(*EXIT_CODE)
+    count = size // 50
     settings = (*{**forge.SETTINGS, **GREAT}.values(), 1, 0, 0)
     data = forge.sealed(forge.head2(settings, forge.digest(elf), 1, 2 * count))
-    blocks = [forge.block(data[104:136], forge.sc_ok(0), 1 + k, 2 * (count - 1 - k)) for k in range(count)]
+    blocks = [forge.block(data[104:136], forge.sc_ok(0), 1 + k, 2 * (count - 1 - k))
+              for k in range(count)]
     return data + b"".join(blocks), elf, 0
 
 
@@ -144,17 +167,21 @@ class Call:
         command = ["sh", "-c", f'ulimit -t {SECONDS}; exec "$@"', "sh"]
         command += ["/usr/bin/time", "-f", "%U %S %M", "-o", f"{folder}/took", PROGRAM, *words]
         with open(os.devnull, "wb") as out:
-            self.status = subprocess.run(command, stdin=subprocess.DEVNULL, stdout=out, stderr=out, cwd=folder).returncode
+            self.status = subprocess.run(command, stdin=subprocess.DEVNULL, stdout=out,
+                                         stderr=out, cwd=folder).returncode
         with open(f"{folder}/took", encoding="ascii") as file:
             user, system, size = file.read().split("\n")[-2].split()
-        self.seconds, self.size = float(user) + float(system), int(size) << 10
-        self.given = sum(os.path.getsize(f"{folder}/{word}") for word in words if word != "NEW" and os.path.isfile(f"{folder}/{word}"))
+        self.seconds = float(user) + float(system)
+        self.size = int(size) << 10
+        self.given = sum(os.path.getsize(f"{folder}/{word}")
+                         for word in words if word != "NEW" and os.path.isfile(f"{folder}/{word}"))
 
     def row(self, name):
         within = "yes" if self.size <= 20 * self.given + (64 << 20) else "no"
         status = self.status if self.status < 128 else "stopped"
-        print(f"| {name} | {self.given:,} | `{self.words[0]}` | {status} | {self.seconds:.2f} | {self.size / 2**20:,.1f} | "
-              f"{1e9 * self.seconds / self.given:,.1f} | {self.size / self.given:,.1f} | {within} |", flush=True)
+        print(f"| {name} | {self.given:,} | `{self.words[0]}` | {status} | {self.seconds:.2f} | "
+              f"{self.size / 2**20:,.1f} | {1e9 * self.seconds / self.given:,.1f} | "
+              f"{self.size / self.given:,.1f} | {within} |", flush=True)
 
 
 def made(folder, make, size):
@@ -204,12 +231,14 @@ def too_long(folder):
     for name, length in (("LOG", 2**28 + 65_537), ("LOG", 2**40), ("ELF", 2**26 + 1)):
         with open(f"{folder}/{name}", "wb") as file:
             file.truncate(length)
-        words = ("check", "LOG") if name == "LOG" else ("record", "--seed", "1", "ELF", "LOG2", "BOOK")
+        words = ("check", "LOG") if name == "LOG" else ("record", "--seed", "1", "ELF",
+                                                        "LOG2", "BOOK")
         Call(folder, *words).row(f"{name} of {length:,} bytes")
     os.remove(f"{folder}/LOG")
     os.symlink("/dev/zero", f"{folder}/LOG")
     call = Call(folder, "check", "LOG")
-    print(f"| /dev/zero | | `check` | {call.status} | {call.seconds:.2f} | {call.size / 2**20:,.1f} | | | |")
+    (print(f"| /dev/zero | | `check` | {call.status} | {call.seconds:.2f} | "
+           f"{call.size / 2**20:,.1f} | | | |"))
 
 
 GREAT_LOGS = (sc_records, first_loads, intervals, edge_chain)
@@ -217,8 +246,10 @@ MAKERS = (*GREAT_LOGS, tiny_blocks, stored_pages, stored_pages_of_8, shared_rang
 
 
 def main(words):
-    size, names = (int(words[0]) if words else 64) << 20, words[1:]
-    print("| file | bytes given | command | status | seconds | MiB | nanoseconds a byte | bytes a byte | within the goal |")
+    size = (int(words[0]) if words else 64) << 20
+    names = words[1:]
+    print("| file | bytes given | command | status | seconds | MiB | nanoseconds a byte | bytes a "
+          "byte | within the goal |")
     print("|---|---|---|---|---|---|---|---|---|")
     with tempfile.TemporaryDirectory() as folder:
         for make in MAKERS:

@@ -1,5 +1,5 @@
-"""Programs that a companion once told something wrong about: each asks just that. They are tried before drawn programs; those whose
-logs are big only if they are named."""
+"""Programs that a companion once told something wrong about: each asks just that. They are tried
+before drawn programs; those whose logs are big only if they are named."""
 from __future__ import annotations
 
 import os
@@ -29,8 +29,9 @@ SOURCES = os.path.join(os.path.dirname(os.path.abspath(__file__)), "cases")
 
 
 class Case(NamedTuple):
-    """A program of the folder cases, or a file of the repository, that is compiled by these options, and recorded by those. With
-    `second` it is recorded again of that input, to compare. What comes after a - in the name tells cases of one program apart."""
+    """A program of the folder cases, or a file of the repository, that is compiled by these
+    options, and recorded by those. With `second` it is recorded again of that input, to compare.
+    What comes after a - in the name tells cases of one program apart."""
     name: str
     compile: Sequence[str]
     record: Sequence[str]
@@ -50,7 +51,8 @@ class Case(NamedTuple):
             return os.path.join(building.TOP, self.elf)
         with open(os.path.join(SOURCES, self.name.split("-")[0] + ".c"), encoding="utf-8") as file:
             code = file.read()
-        return (building.compiled_with_library if self.library else building.compiled)(folder, self.name, code, *self.compile)
+        return (building.compiled_with_library if self.library
+                else building.compiled)(folder, self.name, code, *self.compile)
 
     def can_be_built(self) -> bool:
         return not self.library or building.has_library()
@@ -66,7 +68,8 @@ def calls(*names: str, where: Sequence[Sequence[str]] = ()) -> Ask:
 
 
 def restores(asked: Asked) -> None:
-    names = {each.name for each in asked.program.symbols if each.name.startswith("__riscv_restore_")}
+    names = {each.name
+             for each in asked.program.symbols if each.name.startswith("__riscv_restore_")}
     calls(*sorted(names))(asked)
 
 
@@ -94,18 +97,21 @@ CASES = [
     Case("tails-history", ["-O2", G], [], history("turns")),
     Case("far", ["-O1", G], [], history("after")),
     Case("far-slow", ["-O1"], [], calls("leaf")),
-    Case("start", ["-O2", G], [], calls("main", "raw_sum", "sized_sum", "through", "seven", where=[("main", "harts", "==", "1")])),
+    Case("start", ["-O2", G], [], calls("main", "raw_sum", "sized_sum", "through", "seven",
+                                        where=[("main", "harts", "==", "1")])),
     Case("decimal", ["-O2", G], [], calls("much", where=[("much", "result", "==", "72149959")])),
     Case("saved", ["-Os", G, "-msave-restore"], [], restores),
     Case("saved-export", ["-Os", G, "-msave-restore"], [], all_of(ask_export)),
     Case("loops", ["-Os", G], [], all_of(ask_export)),
     Case("gcd", ["-Os", G], [], why()),
     Case("texts", ["-O1", G], [], calls("touch", "weigh", "change"), first=b"read and more"),
-    Case("texts-harts", ["-O0", G], ["--interval", "60"], calls("touch", "weigh", "change"), first=b"read and more"),
+    Case("texts-harts", ["-O0", G], ["--interval", "60"], calls("touch", "weigh", "change"),
+         first=b"read and more"),
     Case("start-plain", ["-O2"], [], calls("main"), has_gdb=False),
     Case("moves", ["-O2", G], [], calls("move", where=[("move", "n", "==", "5")])),
     Case("waits", ["-O0", G], ["--limit", "40000", "--interval", "2000"], why("--rows", "5000")),
-    Case("waits-one", ["-O0", G], ["--limit", "40000", "--interval", "10000000"], why("--rows", "5000")),
+    Case("waits-one", ["-O0", G], ["--limit", "40000", "--interval", "10000000"],
+         why("--rows", "5000")),
     Case("atomic", ["-O2", G], ["--limit", "3000"], why()),
     Case("keeps", ["-O2", G], ["--limit", "3000"], why()),
     Case("both", ["-O1", G], ["--limit", "3000"], why(), harts=2),
@@ -131,7 +137,8 @@ CASES = [
     Case("shop-core", ["-O1", G], [], all_of(ask_core)),
     Case("read_call-core", ["-O2", G], ["--interval", "50"], all_of(ask_core)),
     Case("blocks", ["-O1", G, "-fno-builtin", building.HEAP], [], all_of(ask_memory)),
-    Case("harts", ["-O2", G], ["--limit", "8000", "--log-size", "16384"], all_of(ask_race, ask_history, ask_core), harts=4),
+    Case("harts", ["-O2", G], ["--limit", "8000", "--log-size", "16384"],
+         all_of(ask_race, ask_history, ask_core), harts=4),
     Case("switches", [], ["--seed", "10"], ask_shrink, harts=4, elf="examples/filters.elf"),
     Case("seldom", ["-O1", G], ["--limit", "2000000"], history("rare"), is_big=True),
     Case("sift", ["-O2", G], ["--limit", "2000000"], calls("sift_down"), is_big=True),

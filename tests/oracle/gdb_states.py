@@ -1,4 +1,5 @@
-"""Runs inside of gdb, which is attached to the bridge: tells registers, words and callers at the rows that $ASKED names."""
+"""Runs inside of gdb, which is attached to the bridge: tells registers, words and callers at the
+rows that $ASKED names."""
 import importlib
 import json
 import os
@@ -7,7 +8,8 @@ from typing import Any, Dict, List, Optional
 gdb: Any = importlib.import_module("gdb")     # only there inside of gdb
 NAMES = ("zero ra sp gp tp t0 t1 t2 fp s1 a0 a1 a2 a3 a4 a5 a6 a7 s2 s3 s4 s5 s6 s7 s8 s9 s10 s11 "
          "t3 t4 t5 t6").split()
-MASK, DEEPEST = 0xffffffff, 3
+MASK = 0xffffffff
+DEEPEST = 3
 
 
 def word_at(address: int) -> Optional[int]:
@@ -32,20 +34,22 @@ def backs(frame: Any) -> List[int]:
 
 def state(hart: int, count: int, words: List[int]) -> Dict[str, Any]:
     gdb.execute(f"monitor goto {hart}:{count}", to_string=True)
-    for cache in ("register-cache", "dcache"):          # gdb doesn't know that it is elsewhere: it keeps the stack, too
+    # Gdb doesn't know that it is elsewhere: it keeps the stack, too
+    for cache in ("register-cache", "dcache"):
         gdb.execute(f"maintenance flush {cache}", to_string=True)
     gdb.execute(f"thread {hart + 1}", to_string=True)
     frame = gdb.newest_frame()
     registers = [int(frame.read_register(name)) & MASK for name in NAMES]
-    return {"pc": int(frame.pc()) & MASK, "registers": registers, "words": {str(word): word_at(word) for word in words},
-            "backs": backs(frame), "is_described": frame.function() is not None}
+    return {"pc": int(frame.pc()) & MASK, "registers": registers,
+            "words": {str(word): word_at(word) for word in words}, "backs": backs(frame),
+            "is_described": frame.function() is not None}
 
 
 def main() -> None:
     with open(os.environ["ASKED"], encoding="utf-8") as file:
         asked = json.load(file)
-    said = {"states": [state(*each) for each in asked["places"]],
-            "answers": [gdb.execute(f"monitor {each}", to_string=True) for each in asked["questions"]]}
+    said = {"states": [state(*each) for each in asked["places"]], "answers":
+            [gdb.execute(f"monitor {each}", to_string=True) for each in asked["questions"]]}
     with open(os.environ["ANSWER"], "w", encoding="utf-8") as file:
         json.dump(said, file)
 

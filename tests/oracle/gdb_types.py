@@ -12,9 +12,11 @@ MOST_COVERED = 64           # bytes
 
 def kind_of(found: Any) -> Dict[str, Any]:
     plain = found.strip_typedefs()
-    said = {"kind": "other", "name": str(found.unqualified()), "size": int(plain.sizeof), "signed": False}
+    said = {"kind": "other", "name": str(found.unqualified()),
+            "size": int(plain.sizeof), "signed": False}
     if plain.code in (gdb.TYPE_CODE_INT, gdb.TYPE_CODE_CHAR):
-        said.update(kind="int", signed="unsigned" not in str(plain) and str(plain.unqualified()) != "char")
+        said.update(kind="int",
+                    signed="unsigned" not in str(plain) and str(plain.unqualified()) != "char")
     elif plain.code == gdb.TYPE_CODE_PTR:
         said["kind"] = "pointer"
     elif plain.code == gdb.TYPE_CODE_VOID:
@@ -23,20 +25,23 @@ def kind_of(found: Any) -> Dict[str, Any]:
 
 
 def leaves(found: Any, path: str, at: int, told: List[Any]) -> None:
-    """Each part of a type that has no parts: its path, its place, its type. A field of bits has the type None."""
+    """Each part of a type that has no parts: its path, its place, its type. A field of bits has the
+    type None."""
     plain = found.strip_typedefs()
     if len(told) >= MOST_LEAVES:
         return
     if plain.code == gdb.TYPE_CODE_ARRAY:
         low, high = plain.range()
         for i in range(low, high + 1):
-            leaves(plain.target(), f"{path}[{i}]", at + (i - low) * int(plain.target().sizeof), told)
+            leaves(plain.target(), f"{path}[{i}]",
+                   at + (i - low) * int(plain.target().sizeof), told)
     elif plain.code in (gdb.TYPE_CODE_STRUCT, gdb.TYPE_CODE_UNION):
         for field in plain.fields():
             if field.bitsize:
                 told.append([f"{path}.{field.name}", at + field.bitpos // 8, None])
             else:
-                leaves(field.type, f"{path}.{field.name}" if field.name else path, at + field.bitpos // 8, told)
+                leaves(field.type, f"{path}.{field.name}" if field.name else path,
+                       at + field.bitpos // 8, told)
     else:
         told.append([path, at, kind_of(found)])
 
@@ -47,11 +52,13 @@ def variable(name: str) -> Dict[str, Any]:
         raise ValueError("there is no debug information of it")
     told: List[Any] = []
     leaves(place.type.target(), "", 0, told)
-    return {"address": int(place), "size": int(place.type.target().sizeof), "leaves": told, "name": str(place.type.target())}
+    return {"address": int(place), "size": int(place.type.target().sizeof), "leaves": told,
+            "name": str(place.type.target())}
 
 
 def registers_at(address: int) -> Dict[str, str]:
-    """{parameter: its register} at an address. An empty range there says where it was before the first row."""
+    """{parameter: its register} at an address. An empty range there says where it was before the
+    first row."""
     found: Dict[str, str] = {}
     name = ""
     for line in gdb.execute(f"info scope *{address:#x}", to_string=True).splitlines():
@@ -61,17 +68,20 @@ def registers_at(address: int) -> Dict[str, str]:
             if begin[2]:
                 found.setdefault(name, begin[2])
         place = re.search(r"Range (\w+)-(\w+): a variable in \$(\w+)", line)
-        if place and (int(place[1], 16) <= address < int(place[2], 16) or int(place[1], 16) == address):
+        if place and (int(place[1], 16) <= address < int(place[2], 16)
+                      or int(place[1], 16) == address):
             found.setdefault(name, place[3])
     return found
 
 
 def block_of(name: str, address: int) -> Any:
-    """The block of a function. What is inlined at its first row has a block of its own. Assembly from which the linker took code is
-    longer in DWARF than it is, and covers the first rows of what comes behind it."""
+    """The block of a function. What is inlined at its first row has a block of its own. Assembly
+    from which the linker took code is longer in DWARF than it is, and covers the first rows of what
+    comes behind it."""
     for at in range(address, address + MOST_COVERED, 4):
         block = gdb.block_for_pc(at)
-        while block is not None and (block.function is None or block.function.name != name.split(".")[0]):
+        while block is not None and (block.function is None
+                                     or block.function.name != name.split(".")[0]):
             block = block.superblock
         if block is not None and int(block.start) == address:
             return block
@@ -81,11 +91,14 @@ def block_of(name: str, address: int) -> Any:
 def function(name: str, address: int) -> Dict[str, Any]:
     block = block_of(name, address)
     if block is None or block.function.symtab.filename.endswith((".S", ".s")):
-        return {}                               # (assembly has no types, whatever DWARF leaves out of it)
+        # (assembly has no types, whatever DWARF leaves out of it)
+        return {}
     held = registers_at(address)
-    parameters = [[each.name, kind_of(each.type), held.get(each.name, "")] for each in block if each.is_argument]
+    parameters = [[each.name, kind_of(each.type), held.get(each.name, "")]
+                  for each in block if each.is_argument]
     inlined = [int(place) for place in inlined_places(block.function.name) if place != address]
-    return {"parameters": parameters, "result": kind_of(block.function.type.target()), "inlined": inlined}
+    return {"parameters": parameters,
+            "result": kind_of(block.function.type.target()), "inlined": inlined}
 
 
 def inlined_places(name: str) -> List[int]:

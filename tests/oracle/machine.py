@@ -1,4 +1,5 @@
-"""Reads the rows of a log one by one: registers, memory, calls. Nothing is skipped, and nothing is clever."""
+"""Reads the rows of a log one by one: registers, memory, calls. Nothing is skipped, and nothing is
+clever."""
 from __future__ import annotations
 
 import re
@@ -10,16 +11,24 @@ from typing import Dict, Iterator, List, NamedTuple, Optional, Set, Tuple
 NAMES = ("zero ra sp gp tp t0 t1 t2 s0 s1 a0 a1 a2 a3 a4 a5 a6 a7 s2 s3 s4 s5 s6 s7 s8 s9 s10 s11 "
          "t3 t4 t5 t6").split()
 REGISTER = {name: number for number, name in enumerate(NAMES)}
-RA, A0, A1, A7 = 1, 10, 11, 17
+RA = 1
+A0 = 10
+A1 = 11
+A7 = 17
 LINKS = ("ra", "t0")
 RETURNS = ("jalr zero,0(ra)", "jalr zero,0(t0)")
-READ, WRITE, LONGEST_CALL, FAILED = 63, 64, 4096, 1 << 31
+READ = 63
+WRITE = 64
+LONGEST_CALL = 4096
+FAILED = 1 << 31
 RESTORES = "__riscv_restore_"
 WIDTHS = {"b": 1, "h": 2, "w": 4}
-HEADER, END = 1, 6
+HEADER = 1
+END = 6
 SIZES = {1: 146, 2: 10, 3: 2, 4: 2, 5: 19, 6: 15}
-REASONS = {1: "length", 2: "call", 3: "exit", 4: "group", 5: "stopped", 6: "guard", 7: "limit", 17: "Illegal", 18: "Breakpoint",
-           19: "FetchOutside", 20: "TargetMisaligned", 21: "LoadOutside", 22: "LoadMisaligned", 23: "StoreOutside",
+REASONS = {1: "length", 2: "call", 3: "exit", 4: "group", 5: "stopped", 6: "guard", 7: "limit",
+           17: "Illegal", 18: "Breakpoint", 19: "FetchOutside", 20: "TargetMisaligned",
+           21: "LoadOutside", 22: "LoadMisaligned", 23: "StoreOutside",
            24: "StoreMisaligned", 25: "StoreReadOnly"}
 
 
@@ -55,17 +64,25 @@ class Row(NamedTuple):
 
 
 class Frame:
-    """A call that a hart is in. `parent` is the one over it; `back` is the address to which it returns, None if nothing tells it.
+    """A call that a hart is in. `parent` is the one over it; `back` is the address to which it
+    returns, None if nothing tells it.
 
     end     the hart's count when it returned, or None; result: what a0 and a1 were then
     left    the count and the row behind it when it was over: it returned, or a call over it did"""
-    __slots__ = ("parent", "source", "target", "back", "is_tail", "is_hidden", "hart", "count", "row", "registers", "end",
-                 "left", "result")
+    __slots__ = ("parent", "source", "target", "back", "is_tail", "is_hidden", "hart", "count",
+                 "row", "registers", "end", "left", "result")
 
-    def __init__(self, parent: Optional[Frame], source: Optional[Row], row: Row, back: Optional[int], is_tail: bool,
-                 registers: Tuple[int, ...]) -> None:
-        self.parent, self.source, self.target, self.back, self.is_tail = parent, source, row.code.pc, back, is_tail
-        self.hart, self.count, self.row, self.registers = row.hart, row.ic, row.number, registers
+    def __init__(self, parent: Optional[Frame], source: Optional[Row], row: Row,
+                 back: Optional[int], is_tail: bool, registers: Tuple[int, ...]) -> None:
+        self.parent = parent
+        self.source = source
+        self.target = row.code.pc
+        self.back = back
+        self.is_tail = is_tail
+        self.hart = row.hart
+        self.count = row.ic
+        self.row = row.number
+        self.registers = registers
         self.is_hidden = False
         self.end: Optional[int] = None
         self.left: Optional[Tuple[int, int]] = None
@@ -91,8 +108,8 @@ class Ended:
 
 
 class Head(NamedTuple):
-    """What a log file says beside its rows. `late`: the harts whose first interval has an End here, but no Header: its rows are
-    lost, and were done beside others that are here."""
+    """What a log file says beside its rows. `late`: the harts whose first interval has an End here,
+    but no Header: its rows are lost, and were done beside others that are here."""
     harts: int
     dropped: int
     late: Set[int]
@@ -110,7 +127,8 @@ def read_head(name: str) -> Head:
         records = data[92:-32]
     else:
         dropped, = struct.unpack_from("<Q", data, 92)
-        pieces, end = [], len(data)
+        pieces = []
+        end = len(data)
         while end > 136:
             size, = struct.unpack_from("<I", data, end - 36)
             pieces.append(data[end - 48 - size:end - 48])
@@ -118,9 +136,11 @@ def read_head(name: str) -> Head:
         records = b"".join(reversed(pieces))
     first: Dict[int, Tuple[int, List[int]]] = {}
     late: Set[int] = set()
-    ends, at = {}, 0
+    ends = {}
+    at = 0
     while at < len(records):
-        tag, hart = records[at], records[at + 1]
+        tag = records[at]
+        hart = records[at + 1]
         if tag == HEADER and hart not in first:
             count, _, *registers = struct.unpack_from("<QI31I", records, at + 10)
             first[hart] = count, [0, *registers]
@@ -143,18 +163,22 @@ class Image:
         count, = struct.unpack_from("<H", data, 44)
         self.segments: List[Tuple[int, int, bool, bytes]] = []      # address, end, writable, bytes
         for i in range(count):
-            kind, at, address, _, in_file, in_memory, flags, _ = struct.unpack_from("<8I", data, first + 32 * i)
+            kind, at, address, _, in_file, in_memory, flags, _ = struct.unpack_from("<8I", data,
+                                                                                    first + 32 * i)
             if kind == 1:
-                self.segments.append((address, address + in_memory, bool(flags & 2), data[at:at + in_file].ljust(in_memory, b"\0")))
+                self.segments.append((address, address + in_memory, bool(flags & 2),
+                                      data[at:at + in_file].ljust(in_memory, b"\0")))
 
     def byte(self, address: int) -> int:
-        return next((body[address - begin] for begin, end, _, body in self.segments if begin <= address < end), 0)
+        return next((body[address - begin]
+                     for begin, end, _, body in self.segments if begin <= address < end), 0)
 
     def word(self, address: int) -> int:
         return int.from_bytes(bytes(self.byte(address + i) for i in range(4)), "little")
 
     def is_read_only(self, address: int) -> bool:
-        return any(begin <= address < end and not writable for begin, end, writable, _ in self.segments)
+        return any(begin <= address < end and not writable
+                   for begin, end, writable, _ in self.segments)
 
     def text(self, address: int, most: int) -> str:
         """The text at an address that no run can change, or nothing."""
@@ -169,13 +193,15 @@ class Memory:
     """Words, by their addresses: None is unknown."""
 
     def __init__(self, image: Image, is_whole: bool) -> None:
-        self.image, self.is_whole = image, is_whole
+        self.image = image
+        self.is_whole = is_whole
         self.words: Dict[int, Optional[int]] = {}
 
     def word(self, address: int) -> Optional[int]:
         if address in self.words:
             return self.words[address]
-        return self.image.word(address) if self.is_whole or self.image.is_read_only(address) else None
+        return (self.image.word(address) if self.is_whole or self.image.is_read_only(address)
+                else None)
 
     def byte(self, address: int) -> Optional[int]:
         word = self.word(address & ~3)
@@ -215,7 +241,8 @@ class Hart:
 class Machine:
     """All rows of a log.
 
-    frames  of each row the call that it is in, before the row; all: every call, in the order in which they began
+    frames  of each row the call that it is in, before the row; all: every call, in the order in
+            which they began
     givers  of each load the rows that had stored its bytes (-1: none did; -2: a `read` call)"""
     program: str
     log: str
@@ -228,10 +255,12 @@ class Machine:
     at: Dict[Tuple[int, int], int] = field(default_factory=dict)
 
     def __post_init__(self) -> None:
-        self.head, self.image = read_head(self.log), Image(self.elf)
+        self.head = read_head(self.log)
+        self.image = Image(self.elf)
         self.memory = Memory(self.image, not self.head.dropped)
         self.codes: Dict[str, Code] = {}
-        self.harts = {hart: Hart(list(registers)) for hart, (_, registers) in self.head.first.items()}
+        self.harts = {hart: Hart(list(registers))
+                      for hart, (_, registers) in self.head.first.items()}
         self.told: Dict[int, int] = {}          # the words that `joint` itself tells at the end
         late = set(self.head.late)
         self.begun = 0                          # the row at which each hart has begun
@@ -251,7 +280,9 @@ class Machine:
         code = self.codes.get(key)
         if code is None:
             code = self.codes[key] = code_of(key)
-        register, result, fault = "", 0, ""
+        register = ""
+        result = 0
+        fault = ""
         load = store = None
         for part in told:
             if part.startswith("load "):
@@ -263,7 +294,8 @@ class Machine:
             else:
                 register, _, value = part.partition("=")
                 result = int(value, 16)
-        return Row(len(self.rows), int(hart), int(count), code, register, result, load, store, fault, line)
+        return Row(len(self.rows), int(hart), int(count), code, register, result, load, store,
+                   fault, line)
 
     def take(self, row: Row) -> None:
         hart = self.harts[row.hart]
@@ -276,7 +308,9 @@ class Machine:
         for access in (row.load, row.store):
             if access:
                 self.memory.words[access.address & ~3] = access.value
-        hart.jump, hart.ra, hart.rows = row, hart.registers[RA], hart.rows + 1
+        hart.jump = row
+        hart.ra = hart.registers[RA]
+        hart.rows += 1
         if row.register:
             hart.registers[REGISTER[row.register]] = row.result
 
@@ -284,7 +318,8 @@ class Machine:
         """What the hart's row before this one led to."""
         jump = hart.jump
         if jump is None:
-            if row.code.pc in self.functions.ends:          # it may be in the middle of it, if the log lost its beginning
+            # It may be in the middle of it, if the log lost its beginning
+            if row.code.pc in self.functions.ends:
                 self.call(hart, None, row, None, True)
         elif jump.code.is_call:
             self.call(hart, jump, row, jump.code.pc + 4, False)
@@ -292,12 +327,14 @@ class Machine:
             self.come_back(hart, row)
         elif jump.code.is_jump and self.functions.is_entry(jump.code.pc, row.code.pc):
             is_restore = self.functions.is_restore(row.code.pc)
-            back = hart.frame.back if hart.frame and hart.frame.source else None if is_restore else hart.ra
+            back = (hart.frame.back if hart.frame and hart.frame.source
+                    else None if is_restore else hart.ra)
             self.call(hart, jump, row, back, True)
             if hart.frame:
                 hart.frame.is_hidden = is_restore
 
-    def call(self, hart: Hart, source: Optional[Row], row: Row, back: Optional[int], is_tail: bool) -> None:
+    def call(self, hart: Hart, source: Optional[Row], row: Row,
+             back: Optional[int], is_tail: bool) -> None:
         hart.frame = Frame(hart.frame, source, row, back, is_tail, tuple(hart.registers))
         self.all.append(hart.frame)
 
@@ -312,15 +349,18 @@ class Machine:
         while hart.frame is not found.parent:
             frame = hart.frame
             assert frame
-            frame.left, hart.frame = (row.ic, row.number), frame.parent
+            frame.left = (row.ic, row.number)
+            hart.frame = frame.parent
             if frame.back == row.code.pc and (frame is found or frame.is_tail):
-                frame.end, frame.result = row.ic, (hart.registers[A0], hart.registers[A1])
+                frame.end = row.ic
+                frame.result = (hart.registers[A0], hart.registers[A1])
 
     def system_call(self, hart: Hart, row: Row) -> None:
         kind, stream, address = (hart.registers[number] for number in (A7, A0, A1))
         size = min(row.result, LONGEST_CALL) if row.register == "a0" and row.result < FAILED else 0
         if kind == WRITE and row.register and row.result < FAILED:
-            self.calls.append(SystemCall(row, kind, stream, address, size, hart.frame, self.memory.bytes(address, size)))
+            self.calls.append(SystemCall(row, kind, stream, address, size, hart.frame,
+                                         self.memory.bytes(address, size)))
         elif kind == READ and size:
             self.calls.append(SystemCall(row, kind, stream, address, size, hart.frame, []))
             self.memory.fill(address, size)
@@ -346,12 +386,15 @@ def code_of(key: str) -> Code:
     is_jal = name in ("jal", "jalr")
     is_call = is_jal and operands.split(",")[0] in LINKS
     is_return = text in RETURNS
-    letter = {"lbu": "b", "lhu": "h"}.get(name) or (name[1:] if re.fullmatch("[ls][bhw]", name) else "w")
-    return Code(int(words[0], 16), text, name, WIDTHS[letter], is_call, is_return, is_jal and not is_call and not is_return)
+    letter = {"lbu": "b", "lhu": "h"}.get(name) or (name[1:] if re.fullmatch("[ls][bhw]", name)
+                                                    else "w")
+    return Code(int(words[0], 16), text, name, WIDTHS[letter], is_call, is_return,
+                is_jal and not is_call and not is_return)
 
 
 def lines_of(program: str, *words: str) -> Iterator[str]:
-    with subprocess.Popen([program, *words], stdout=subprocess.PIPE, stderr=subprocess.DEVNULL, text=True) as process:
+    with subprocess.Popen([program, *words], stdout=subprocess.PIPE,
+                          stderr=subprocess.DEVNULL, text=True) as process:
         assert process.stdout
         for line in process.stdout:
             yield line.rstrip("\n")

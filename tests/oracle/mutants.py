@@ -1,9 +1,10 @@
 #!/usr/bin/env python3
 """Plants wrong lines in a copy of the companions, one by one: the oracle has to find each.
 
-tests/oracle/mutants.py [NAME..]: those of mutants.txt, or the named ones. The status is 1 if one isn't found, or can't be planted.
-An entry of mutants.txt has a heading, `# NAME: why it is to be feared`, and then `file:`, `old:`, `new:`, and `ask:`, the words by
-which the oracle is called. `old` stands in the file once."""
+tests/oracle/mutants.py [NAME..]: those of mutants.txt, or the named ones. The status is 1 if one
+isn't found, or can't be planted. An entry of mutants.txt has a heading, `# NAME: why it is to be
+feared`, and then `file:`, `old:`, `new:`, and `ask:`, the words by which the oracle is called.
+`old` stands in the file once."""
 from __future__ import annotations
 
 import functools
@@ -46,16 +47,18 @@ def planted(mutant: Dict[str, str], folder: str) -> bool:
 def oracle(folder: str, ask: str) -> "subprocess.CompletedProcess[str]":
     """The oracle of a copy."""
     program = os.path.join(TOP, "release", "zelkuma-x86_64-linux")
-    return subprocess.run([sys.executable, "-B", "-m", "tests.oracle", "--project", folder, "--program", program, "--keep",
-                           os.path.join(folder, "kept"), *ask.split()], cwd=TOP, stdout=subprocess.PIPE, stderr=subprocess.STDOUT, text=True,
-                          check=False)
+    return subprocess.run([sys.executable, "-B", "-m", "tests.oracle", "--project", folder,
+                           "--program", program, "--keep", os.path.join(folder, "kept"),
+                           *ask.split()], cwd=TOP, stdout=subprocess.PIPE,
+                          stderr=subprocess.STDOUT, text=True, check=False)
 
 
 def copied(folder: str) -> None:
     for part in PARTS:
         source = os.path.join(TOP, part)
         if os.path.isdir(source):
-            shutil.copytree(source, os.path.join(folder, part), symlinks=True, ignore=shutil.ignore_patterns("__pycache__"))
+            shutil.copytree(source, os.path.join(folder, part), symlinks=True,
+                            ignore=shutil.ignore_patterns("__pycache__"))
         else:
             shutil.copy(source, folder)
 
@@ -78,7 +81,8 @@ def try_mutant(mutant: Dict[str, str]) -> str:
             return f"can't be planted: {mutant['file']} doesn't have its line once"
         done = oracle(folder, mutant["ask"])
         kinds = [line[9:] for line in done.stdout.splitlines() if line.startswith("differs: ")]
-        return f"found: {'; '.join(kinds)}" if done.returncode == 1 and kinds else f"NOT FOUND: status {done.returncode}, {done.stdout[-200:]}"
+        return (f"found: {'; '.join(kinds)}" if done.returncode == 1 and kinds
+                else f"NOT FOUND: status {done.returncode}, {done.stdout[-200:]}")
 
 
 def main(names: List[str]) -> int:

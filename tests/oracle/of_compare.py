@@ -11,13 +11,16 @@ TITLES = "GOOD", "BAD"
 
 
 def giver(machine: Machine, load: Row) -> Optional[Row]:
-    """The latest row before a load that stored to a byte of it, or the `read` call that filled one."""
+    """The latest row before a load that stored to a byte of it, or the `read` call that filled
+    one."""
     if not load.load:
         return None
-    first, end = load.load.address, load.load.address + load.code.width
+    first = load.load.address
+    end = load.load.address + load.code.width
     fills = {call.row.number: call for call in machine.calls if call.kind == READ}
     for number in range(load.number - 1, -1, -1):
-        row, fill = machine.rows[number], fills.get(number)
+        row = machine.rows[number]
+        fill = fills.get(number)
         if fill and fill.address < end and first < fill.address + fill.size:
             return row
         if row.store and row.store.address < end and first < row.store.address + row.code.width:
@@ -41,7 +44,8 @@ def ask_compare(good: Asked, bad: Asked) -> None:
     parted = {each["hart"]: each for each in told["parted"]}
     for hart in range(told["harts"]):
         ways = [way_of(machine, hart) for machine in machines]
-        first = next((at for at, (one, other) in enumerate(zip(*ways)) if one != other), min(map(len, ways)))
+        first = next((at for at, (one, other) in enumerate(zip(*ways)) if one != other),
+                     min(map(len, ways)))
         differs = first < max(map(len, ways))
         if hart in parted and not differs:
             good.differs("compare: parted", words, f"hart {hart} parted", "its rows are the same")
@@ -51,17 +55,21 @@ def ask_compare(good: Asked, bad: Asked) -> None:
             ask_parting(good, words, parted[hart], machines, first)
 
 
-def ask_parting(asked: Asked, words: List[str], told: Dict[str, Any], machines: Any, first: int) -> None:
+def ask_parting(asked: Asked, words: List[str], told: Dict[str, Any],
+                machines: Any, first: int) -> None:
     for at, machine in enumerate(machines):
-        same, load = told["same"][at], told["loads"][at]
+        same = told["same"][at]
+        load = told["loads"][at]
         row = machine.rows[machine.at[told["hart"], same["count"]]]
         asked.same("compare: row", words, (TITLES[at], same["row"]), (TITLES[at], row.text))
-        asked.same("compare: not before they part", words, (TITLES[at], same["count"] + 1 >= first), (TITLES[at], True))
+        asked.same("compare: not before they part", words,
+                   (TITLES[at], same["count"] + 1 >= first), (TITLES[at], True))
         if not load:
             continue
         row = machine.rows[machine.at[load["hart"], load["count"]]]
         asked.same("compare: load", words, (TITLES[at], load["row"]), (TITLES[at], row.text))
         true = giver(machine, row)
-        asked.same("compare: stored by", words, (row.text, told["givers"][at]), (row.text, true.text if true else ""))
+        asked.same("compare: stored by", words, (row.text, told["givers"][at]),
+                   (row.text, true.text if true else ""))
     if asked.recorded.harts == 1 and told["same"][0]["count"] == told["same"][1]["count"]:
         asked.same("compare: where", words, told["same"][0]["count"], first - 1)

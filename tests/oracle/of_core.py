@@ -1,5 +1,5 @@
-"""The core files of `export`: of each hart the registers, and what is known of memory, at drawn rows and at the end. It is read by
-the format of ELF, byte by byte."""
+"""The core files of `export`: of each hart the registers, and what is known of memory, at drawn
+rows and at the end. It is read by the format of ELF, byte by byte."""
 from __future__ import annotations
 
 import os
@@ -10,13 +10,18 @@ from typing import Dict, Iterator, List, NamedTuple, Optional, Sequence, Tuple
 from .asking import Asked
 from .machine import READ, REGISTER, Machine, Memory
 
-ROWS, LOWEST, PAGE = 3, 4096, 1 << 12
-NOTE, LOADED, STATUS = 4, 1, 1
+ROWS = 3
+LOWEST = 4096
+PAGE = 1 << 12
+NOTE = 4
+LOADED = 1
+STATUS = 1
 REGISTERS_AT = 72           # in Linux's state of a thread of 32 bits
 
 
 class Core(NamedTuple):
-    """{hart: its pc and x1 to x31}; {address of a page: {byte's place in it: value}}; and the first hart."""
+    """{hart: its pc and x1 to x31}; {address of a page: {byte's place in it: value}}; and the first
+    hart."""
     registers: Dict[int, List[int]]
     words: Dict[int, bytes]
     first: int
@@ -51,10 +56,13 @@ def states_in(notes: bytes) -> Dict[int, List[int]]:
     return found
 
 
-def along(machine: Machine, numbers: Sequence[int]) -> Iterator[Tuple[int, Dict[int, List[int]], Memory]]:
-    """Before each of these rows, in order: the registers of all harts, and memory. The number behind the last row is the end."""
+def along(machine: Machine,
+          numbers: Sequence[int]) -> Iterator[Tuple[int, Dict[int, List[int]], Memory]]:
+    """Before each of these rows, in order: the registers of all harts, and memory. The number
+    behind the last row is the end."""
     registers = {hart: list(values) for hart, (_, values) in machine.head.first.items()}
-    memory, wanted = Memory(machine.image, not machine.head.dropped), set(numbers)
+    memory = Memory(machine.image, not machine.head.dropped)
+    wanted = set(numbers)
     fills = {call.row.number: call for call in machine.calls if call.kind == READ and call.size}
     for row in machine.rows:
         if row.number in wanted:
@@ -72,12 +80,14 @@ def along(machine: Machine, numbers: Sequence[int]) -> Iterator[Tuple[int, Dict[
 
 
 def pc_of(machine: Machine, hart: int, number: int) -> Optional[int]:
-    """The address of a hart's next row. It has none at the end: then that behind its last row, unless this was a jump or ended the hart."""
+    """The address of a hart's next row. It has none at the end: then that behind its last row,
+    unless this was a jump or ended the hart."""
     following = next((row for row in machine.rows[number:] if row.hart == hart), None)
     if following:
         return following.code.pc
     last = next((row for row in reversed(machine.rows) if row.hart == hart), None)
-    is_plain = last and last.register and not last.code.is_call and not last.code.is_return and not last.code.is_jump and last.code.name != "ecall"
+    is_plain = (last and last.register and not last.code.is_call and not last.code.is_return
+                and not last.code.is_jump and last.code.name != "ecall")
     return last.code.pc + 4 if last and is_plain else None
 
 
@@ -86,7 +96,8 @@ def ask_core(asked: Asked, draw: random.Random) -> None:
     if not machine.rows:
         return
     numbers = draw.sample(range(len(machine.rows)), min(ROWS, len(machine.rows)))
-    numbers += [call.row.number + 1 for call in machine.calls if call.kind == READ and call.size][:1]
+    numbers += [call.row.number + 1
+                for call in machine.calls if call.kind == READ and call.size][:1]
     faults = {row.hart: row for row in machine.rows if row.fault}
     for number, registers, memory in along(machine, [*numbers, len(machine.rows)]):
         row = machine.rows[number] if number < len(machine.rows) else None
@@ -99,32 +110,39 @@ def ask_core(asked: Asked, draw: random.Random) -> None:
         if row:
             asked.same("core: first", words, core.first, row.hart)
         for hart, values in core.registers.items():
-            pc = faults[hart].code.pc if row is None and hart in faults else pc_of(machine, hart, number)
+            pc = (faults[hart].code.pc if row is None and hart in faults
+                  else pc_of(machine, hart, number))
             if pc is not None:
                 asked.same("core: pc", words, (hart, f"{values[0]:08x}"), (hart, f"{pc:08x}"))
             for register in range(1, 32):
-                asked.same("core: registers", words, (hart, register, values[register]), (hart, register, registers[hart][register]))
+                asked.same("core: registers", words, (hart, register, values[register]),
+                           (hart, register, registers[hart][register]))
         ask_memory(asked, words, core, memory, draw)
 
 
 def saved(asked: Asked, words: Sequence[str]) -> Optional[Core]:
     name = asked.recorded.log + ".core"
-    done = asked.run("export", asked.recorded.log, asked.recorded.elf, "--core", name, *words, *asked.names())
+    done = asked.run("export", asked.recorded.log, asked.recorded.elf, "--core", name,
+                     *words, *asked.names())
     if done.returncode:
-        asked.differs("core: no answer", ["export", "--core", *words], f"status {done.returncode}: {done.stderr}", "an answer")
+        asked.differs("core: no answer", ["export", "--core", *words],
+                      f"status {done.returncode}: {done.stderr}", "an answer")
         return None
     core = read_core(name)
     os.remove(name)
     return core
 
 
-def ask_memory(asked: Asked, words: Sequence[str], core: Core, memory: Memory, draw: random.Random) -> None:
+def ask_memory(asked: Asked, words: Sequence[str], core: Core, memory: Memory,
+               draw: random.Random) -> None:
     """Each word that a row has touched, and some others; and that what the core has is known."""
     addresses = [word for word in memory.words if word >= LOWEST]
     addresses += [draw.randrange(LOWEST, 1 << 20) & ~3 for _ in range(200)]
-    addresses += [begin + draw.randrange(0, end - begin) & ~3 for begin, end, _, _ in memory.image.segments for _ in range(50) if end - begin > 4]
+    addresses += [begin + draw.randrange(0, end - begin) & ~3 for begin, end, _, _
+                  in memory.image.segments for _ in range(50) if end - begin > 4]
     for address in addresses:
         value = memory.word(address)
-        told = next((int.from_bytes(body[address - begin:address - begin + 4], "little") for begin, body in core.words.items()
-                     if begin <= address < begin + len(body)), None)
+        told = next((int.from_bytes(body[address - begin:address - begin + 4], "little")
+                     for begin, body in core.words.items() if begin <= address < begin + len(body)),
+                    None)
         asked.same("core: memory", words, (f"{address:08x}", told), (f"{address:08x}", value))

@@ -22,10 +22,12 @@ def outermost(asked: Asked, pc: int) -> Where:
 
 
 def calls_of(asked: Asked) -> Iterator[Tuple[Frame, int, int]]:
-    """Calls, with the count and the row behind their end: if they didn't return, behind their hart's last row."""
+    """Calls, with the count and the row behind their end: if they didn't return, behind their
+    hart's last row."""
     for frame in asked.machine.all:
         if frame.source and not frame.is_hidden:
-            yield (frame, *(frame.left or (asked.machine.head.ends[frame.hart].count, len(asked.machine.rows))))
+            yield (frame, *(frame.left or (asked.machine.head.ends[frame.hart].count,
+                                           len(asked.machine.rows))))
 
 
 def saved(asked: Asked, option: str) -> str:
@@ -34,7 +36,8 @@ def saved(asked: Asked, option: str) -> str:
     words = ["export", asked.recorded.log, asked.recorded.elf, option, name, *asked.names()]
     done = asked.run(*words)
     if done.returncode:
-        asked.differs("export: no answer", words, f"status {done.returncode}: {done.stderr}", "an answer")
+        asked.differs("export: no answer", words,
+                      f"status {done.returncode}: {done.stderr}", "an answer")
         return ""
     with open(name, encoding="utf-8", errors="replace") as file:
         text = file.read()
@@ -42,7 +45,8 @@ def saved(asked: Asked, option: str) -> str:
     return text
 
 
-def same_counts(asked: Asked, kind: str, option: str, told: Dict[Any, Any], true: Dict[Any, Any]) -> None:
+def same_counts(asked: Asked, kind: str, option: str, told: Dict[Any, Any],
+                true: Dict[Any, Any]) -> None:
     for key in sorted(set(told) | set(true), key=str):
         asked.same(kind, [option], (key, told.get(key)), (key, true.get(key)))
 
@@ -59,10 +63,12 @@ def ask_callgrind(asked: Asked) -> None:
         inner[key] += count - frame.count
     told_own, told_calls = read_callgrind(saved(asked, "--callgrind"))
     same_counts(asked, "export: callgrind's lines", "--callgrind", told_own, dict(own))
-    same_counts(asked, "export: callgrind's calls", "--callgrind", told_calls, {key: (times[key], inner[key]) for key in times})
+    same_counts(asked, "export: callgrind's calls", "--callgrind", told_calls,
+                {key: (times[key], inner[key]) for key in times})
 
 
-def read_callgrind(text: str) -> Tuple[Dict[Where, int], Dict[Tuple[Where, Where], Tuple[int, int]]]:
+def read_callgrind(text: str) -> Tuple[Dict[Where, int],
+                                       Dict[Tuple[Where, Where], Tuple[int, int]]]:
     own: Dict[Where, int] = {}
     calls: Dict[Tuple[Where, Where], Tuple[int, int]] = {}
     said = {"fl": "", "fn": "", "cfi": "", "cfn": ""}
@@ -91,12 +97,16 @@ def ask_lcov(asked: Asked) -> None:
                 lines[place.file, place.line] = max(lines.get((place.file, place.line), 0), times)
     calls = Counter(frame.target for frame in asked.machine.all if frame.source or not frame.count)
     told_lines, told_calls = read_lcov(saved(asked, "--lcov"))
-    same_counts(asked, "export: lcov's lines", "--lcov", {key: times for key, times in told_lines.items() if times}, dict(lines))
+    same_counts(asked, "export: lcov's lines", "--lcov",
+                {key: times for key, times in told_lines.items() if times}, dict(lines))
     for symbol in asked.program.symbols:
         if symbol.kind == "FUNC" and symbol.name in told_calls:
-            # (the library's end of functions is a part of each: it is done as often as its first row)
-            true = done[symbol.address] if symbol.name.startswith(RESTORES) else calls[symbol.address]
-            asked.same("export: lcov's functions", ["--lcov"], (symbol.name, told_calls[symbol.name]), (symbol.name, true))
+            # (the library's end of functions is a part of each: it is done as often as its first
+            # row)
+            true = (done[symbol.address] if symbol.name.startswith(RESTORES)
+                    else calls[symbol.address])
+            asked.same("export: lcov's functions", ["--lcov"],
+                       (symbol.name, told_calls[symbol.name]), (symbol.name, true))
 
 
 def read_lcov(text: str) -> Tuple[Dict[Tuple[str, int], int], Dict[str, int]]:
@@ -126,10 +136,12 @@ def ask_perfetto(asked: Asked) -> None:
         name = places[-1].function if places else f"{frame.target:08x}"
         source = asked.program.places(frame.source.code.pc)
         where = source[0].text() if source else f"{frame.source.code.pc:08x}"
-        true.append((frame.hart, frame.row, max(1, row - frame.row), name, count - frame.count, where))
+        true.append((frame.hart, frame.row, max(1, row - frame.row), name,
+                     count - frame.count, where))
     text = saved(asked, "--perfetto")
-    told = [(each["tid"], each["ts"], each["dur"], each["name"], each["args"]["instructions"], each["args"]["from"])
-            for each in (json.loads(text)["traceEvents"] if text else []) if each["ph"] == "X" and "instructions" in each.get("args", {})]
+    told = [(each["tid"], each["ts"], each["dur"], each["name"], each["args"]["instructions"],
+             each["args"]["from"]) for each in (json.loads(text)["traceEvents"] if text else [])
+            if each["ph"] == "X" and "instructions" in each.get("args", {})]
     asked.same("export: Perfetto's calls", ["--perfetto"], len(told), len(true))
     for one, other in zip(sorted(told), sorted(true)):
         asked.same("export: Perfetto's call", ["--perfetto"], one, other)

@@ -25,24 +25,29 @@ def ask_value(asked: Asked, value: int) -> None:
     places: Dict[Tuple[int, str], Dict[str, Any]] = {}
     total = 0
     for row in asked.machine.rows:
-        did, access = "", None
+        did = ""
+        access = None
         if row.store and row.store.value == value:
-            did, access = "stores it to", row.store
+            did = "stores it to"
+            access = row.store
         elif row.load and row.load.value == value:
-            did, access = "loads it from", row.load
+            did = "loads it from"
+            access = row.load
         elif row.register and row.result == value:
             did = f"puts it into {row.register}"
         if not did:
             continue
         total += 1
         at = f"{row.hart}:{row.ic}"
-        group = places.setdefault((row.code.pc, did), {"did": did, "first": at, "times": 0, "words": []})
+        group = places.setdefault((row.code.pc, did),
+                                  {"did": did, "first": at, "times": 0, "words": []})
         group.update(last=at, times=group["times"] + 1)
         if access and f"{access.address & ~3:08x}" not in group["words"]:
             group["words"].append(f"{access.address & ~3:08x}")
     asked.same("find: rows", words, told["rows"], total)
     asked.program.fetch(pc for pc, _ in places)
-    wanted: List[Dict[str, Any]] = [{**group, "place": asked.place(pc), "words": group["words"][:3]} for (pc, _), group in places.items()]
+    wanted: List[Dict[str, Any]] = [{**group, "place": asked.place(pc), "words": group["words"][:3]}
+                                    for (pc, _), group in places.items()]
     asked.same("find: places", words, len(told["places"]), min(len(wanted), LONGEST))
     for one, group in zip(told["places"], wanted):
         for key, true in group.items():

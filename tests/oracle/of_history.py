@@ -56,7 +56,8 @@ class Index:
 
     def at_start(self, address: int) -> Optional[int]:
         image = self.machine.image
-        return image.byte(address) if not self.machine.head.dropped or image.is_read_only(address) else None
+        return (image.byte(address) if not self.machine.head.dropped or image.is_read_only(address)
+                else None)
 
     def stores(self, address: int, size: int) -> List[Stored]:
         """In the order of rows."""
@@ -65,20 +66,26 @@ class Index:
         numbers = {number for word in words for number in self.rows.get(word, [])} | set(self.fills)
         found = []
         for number in sorted(numbers):
-            row, fill = self.machine.rows[number], self.fills.get(number)
+            row = self.machine.rows[number]
+            fill = self.fills.get(number)
             first, end = self.touched(row, fill)
-            if row.load and row.load.address & ~3 in words:         # of an atomic: it tells what was there before
-                known.update((row.load.address & ~3 | i, row.load.value >> 8 * i & 255) for i in range(4))
+            # Of an atomic: it tells what was there before
+            if row.load and row.load.address & ~3 in words:
+                known.update((row.load.address & ~3 | i, row.load.value >> 8 * i & 255)
+                             for i in range(4))
             old = [known[address + i] for i in range(size)]
             if fill and first < address + size and address < end:
                 for word in words:
                     if word < end and first < word + 4:
                         known.update(dict.fromkeys(range(word, word + 4)))
-                found.append(Stored(row, fill, first, end, old, [known[address + i] for i in range(size)]))
+                found.append(Stored(row, fill, first, end, old,
+                                    [known[address + i] for i in range(size)]))
             if row.store and row.store.address & ~3 in words:
-                known.update((row.store.address & ~3 | i, row.store.value >> 8 * i & 255) for i in range(4))
+                known.update((row.store.address & ~3 | i, row.store.value >> 8 * i & 255)
+                             for i in range(4))
             if row.store and first < address + size and address < end:
-                found.append(Stored(row, None, first, end, old, [known[address + i] for i in range(size)]))
+                found.append(Stored(row, None, first, end, old,
+                                    [known[address + i] for i in range(size)]))
             if number < self.machine.begun:     # a lost row may store there before the next one
                 known.update(dict.fromkeys(known))
         return found
@@ -93,49 +100,63 @@ def words_of(name: str, address: int, size: int) -> Variable:
     """Bytes without a type: words, if they are more than one."""
     if size <= 4:
         return Variable(name, address, size, [Leaf("", 0, size, WORDS)])
-    leaves = [Leaf(f"+{at}" if at else "", at, min(4, size - at), WORDS) for at in range(0, size, 4)]
+    leaves = [Leaf(f"+{at}" if at else "", at, min(4, size - at), WORDS)
+              for at in range(0, size, 4)]
     return Variable(name, address, size, leaves)
 
 
 def variable_of(asked: Asked, name: str) -> Variable:
     """The variable of a symbol."""
-    symbol = next(each for each in asked.program.symbols if each.name == name and each.kind == "OBJECT")
+    symbol = next(each
+                  for each in asked.program.symbols if each.name == name and each.kind == "OBJECT")
     told = asked.program.types["variables"].get(name)
     if not told:
         return words_of(name, symbol.address, symbol.size)
-    leaves = [Leaf(path, at, kind["size"] if kind else 0, kind) for path, at, kind in told["leaves"]]
+    leaves = [Leaf(path, at, kind["size"] if kind else 0, kind)
+              for path, at, kind in told["leaves"]]
     return Variable(name, told["address"], told["size"], leaves)
 
 
 def variables(asked: Asked, index: Index, draw: random.Random, most: int) -> Iterator[Variable]:
-    """Some variables, those that rows stored to before others; and bytes that rows stored to, by their address."""
-    objects = [each for each in asked.program.symbols if each.kind == "OBJECT" and 0 < each.size <= 4096]
+    """Some variables, those that rows stored to before others; and bytes that rows stored to, by
+    their address."""
+    objects = [each
+               for each in asked.program.symbols if each.kind == "OBJECT" and 0 < each.size <= 4096]
     names = [each.name for each in objects]
     objects = [each for each in objects if names.count(each.name) == 1]
     draw.shuffle(objects)
-    objects.sort(key=lambda each: not any(word in index.stored for word in range(each.address & ~3, each.address + each.size, 4)))
+    objects.sort(key=lambda each: not any(word in index.stored for word
+                                          in range(each.address & ~3, each.address + each.size, 4)))
     for symbol in objects[:most]:
         variable = variable_of(asked, symbol.name)
         yield variable
         some = [leaf for leaf in variable.leaves if leaf.path[:1] not in ("", "+") and leaf.type]
         for leaf in draw.sample(some, min(1, len(some))):
-            yield Variable(symbol.name + leaf.path, variable.address + leaf.at, leaf.size, [leaf._replace(path="", at=0)])
+            yield Variable(symbol.name + leaf.path, variable.address + leaf.at, leaf.size,
+                           [leaf._replace(path="", at=0)])
     stored = sorted(index.stored)
     for word in draw.sample(stored, min(2, len(stored))):
-        at, size = word + draw.randrange(4), draw.choice([1, 2, 4, 4])
+        at = word + draw.randrange(4)
+        size = draw.choice([1, 2, 4, 4])
         yield words_of(f"{at:08x}:{size}", at, size)
 
 
 def entry(asked: Asked, variable: Variable, stored: Stored) -> Dict[str, Any]:
     """As docs/JSON.md has it. `old` and `new` are left out if this doesn't know the type."""
-    first, end = max(stored.first - variable.address, 0), min(stored.end - variable.address, variable.size)
+    first = max(stored.first - variable.address, 0)
+    end = min(stored.end - variable.address, variable.size)
     caller = asked.machine.caller(stored.row.number)
-    said: Dict[str, Any] = {"hart": stored.row.hart, "count": stored.row.ic, "row": stored.row.text, "place": asked.place(stored.row.code.pc),
-                            "caller": None if caller is None else asked.place(caller), "read": stored.fill.size if stored.fill else 0}
+    said: Dict[str, Any] = {"hart": stored.row.hart, "count": stored.row.ic, "row": stored.row.text,
+                            "place": asked.place(stored.row.code.pc),
+                            "caller": None if caller is None else asked.place(caller),
+                            "read": stored.fill.size if stored.fill else 0}
     leaves = [leaf for leaf in variable.leaves if leaf.at < end and first < leaf.at + leaf.size]
-    if leaves and all(leaf.type for leaf in variable.leaves) and not (stored.fill and len(leaves) > 1):
-        leaf = leaves[0] if len(leaves) == 1 else Leaf(leaves[0].path, first, end - first, WORDS)   # of several the bytes as they are
-        values = [number_text(leaf.type or {}, data[leaf.at:leaf.at + leaf.size], asked.program) for data in (stored.old, stored.new)]
+    if (leaves and all(leaf.type for leaf in variable.leaves)
+            and not (stored.fill and len(leaves) > 1)):
+        # Of several the bytes as they are
+        leaf = leaves[0] if len(leaves) == 1 else Leaf(leaves[0].path, first, end - first, WORDS)
+        values = [number_text(leaf.type or {}, data[leaf.at:leaf.at + leaf.size], asked.program)
+                  for data in (stored.old, stored.new)]
         if None not in values:
             said.update(part=leaf.path, old=values[0], new=values[1])
     return said
@@ -152,7 +173,8 @@ def ask_history(asked: Asked, draw: random.Random, most: int = 5) -> None:
 
 
 def ask_variable(asked: Asked, name: str) -> None:
-    index, variable = Index(asked.machine), variable_of(asked, name)
+    index = Index(asked.machine)
+    variable = variable_of(asked, name)
     ask(asked, index, variable)
     ask_text(asked, index, variable)
 
@@ -164,11 +186,13 @@ def ask(asked: Asked, index: Index, variable: Variable) -> None:
         return
     true = index.stores(variable.address, variable.size)
     asked.program.fetch({each.row.code.pc for each in true})
-    if asked.same("history: stores", words, (told["stores"], len(told["entries"])), (len(true), len(true))):
+    if asked.same("history: stores", words, (told["stores"], len(told["entries"])),
+                  (len(true), len(true))):
         for one, stored in zip(told["entries"], true):
             at = f"{one['hart']}:{one['count']}"
             for key, value in entry(asked, variable, stored).items():
-                asked.same(f"history: {key}", words, (at, one[key]), (f"{stored.row.hart}:{stored.row.ic}", value))
+                asked.same(f"history: {key}", words, (at, one[key]),
+                           (f"{stored.row.hart}:{stored.row.ic}", value))
 
 
 def ask_text(asked: Asked, index: Index, variable: Variable) -> None:
@@ -178,7 +202,8 @@ def ask_text(asked: Asked, index: Index, variable: Variable) -> None:
     true = index.stores(variable.address, variable.size)
     if asked.same("history: lines", words, len(lines), len(true)):
         for line, stored in zip(lines, true):
-            pcs = [stored.row.code.pc, *asked.machine.chain(asked.machine.frames[stored.row.number])]
+            pcs = [stored.row.code.pc,
+                   *asked.machine.chain(asked.machine.frames[stored.row.number])]
             chain = "  <  ".join(asked.program.chain(pcs, FRAMES))
             told = line[-len(chain):] if chain else ""
             asked.same("history: calls over it", words, (line, told), (line, chain))
@@ -189,6 +214,8 @@ def ask_changes(asked: Asked, index: Index, variable: Variable) -> None:
     words = [variable.name, "--changes", "--last", "1000000"]
     told = asked.json("history", *words)
     if told is not None:
-        true = [each for each in index.stores(variable.address, variable.size) if each.fill or each.old != each.new]
-        asked.same("history: --changes", words, [(each["hart"], each["count"]) for each in told["entries"]],
+        true = [each for each in index.stores(variable.address, variable.size)
+                if each.fill or each.old != each.new]
+        asked.same("history: --changes", words,
+                   [(each["hart"], each["count"]) for each in told["entries"]],
                    [(each.row.hart, each.row.ic) for each in true])

@@ -1,8 +1,9 @@
-"""The errors of heap blocks that `memory` tells, by a plain list of the blocks that malloc and its like gave, and what of their
-bytes nobody wrote.
+"""The errors of heap blocks that `memory` tells, by a plain list of the blocks that malloc and its
+like gave, and what of their bytes nobody wrote.
 
-A block begins when the allocator returns and ends when `free` or `realloc` begins with its address. Rows below an allocator's call
-are the allocator's own. Whether a value can be undefined is told from above: whatever is computed from a byte that nobody wrote is."""
+A block begins when the allocator returns and ends when `free` or `realloc` begins with its address.
+Rows below an allocator's call are the allocator's own. Whether a value can be undefined is told
+from above: whatever is computed from a byte that nobody wrote is."""
 from __future__ import annotations
 
 import random
@@ -14,16 +15,21 @@ from .machine import A0, READ, REGISTER, Frame, Machine, Row
 
 SIZES = {"malloc": 0, "calloc": 0, "realloc": 1}
 GIVES_BACK = ("free", "realloc")
-BEHIND, SP = 16, 2
+BEHIND = 16
+SP = 2
 MOST_ROWS = 300000
-OVERFLOW, FREED, TWICE, NO_BLOCK = "heap-buffer-overflow", "heap-use-after-free", "double-free", "invalid-free"
+OVERFLOW = "heap-buffer-overflow"
+FREED = "heap-use-after-free"
+TWICE = "double-free"
+NO_BLOCK = "invalid-free"
 UNDEFINED = "use-of-uninitialized-value"
-DISTANCE = re.compile(r"(load|store) of (\d+), (\d+) bytes (after|before|into|before the end of) a block of (\d+) bytes")
+DISTANCE = re.compile(r"(load|store) of (\d+), "
+                      r"(\d+) bytes (after|before|into|before the end of) a block of (\d+) bytes")
 
 
 class Block(NamedTuple):
-    """Its bytes, of which the first `kept` were written at once, and from which row on up to which it is live; `taken` and `given` are
-    the hart and count of the calls."""
+    """Its bytes, of which the first `kept` were written at once, and from which row on up to which
+    it is live; `taken` and `given` are the hart and count of the calls."""
     begin: int
     size: int
     kept: int
@@ -44,16 +50,19 @@ class Allocator:
 
     def __init__(self, asked: Asked) -> None:
         self.machine = asked.machine
-        entries = {each.address: each.name for name in {*SIZES, *GIVES_BACK} for each in asked.program.symbols
-                   if each.name == name and each.kind == "FUNC"}
-        self.calls = [(frame, entries[frame.target]) for frame in self.machine.all if frame.target in entries and not self.is_inside(frame.parent, entries)]
+        entries = {each.address: each.name for name in {*SIZES, *GIVES_BACK}
+                   for each in asked.program.symbols if each.name == name and each.kind == "FUNC"}
+        self.calls = [(frame, entries[frame.target]) for frame in self.machine.all
+                      if frame.target in entries and not self.is_inside(frame.parent, entries)]
         self.entries = entries
         self.blocks: List[Block] = []
-        ends: Dict[int, Tuple[int, Tuple[int, int]]] = {}       # {block's number: the row that ends it, and the call}
+        # {block's number: the row that ends it, and the call}
+        ends: Dict[int, Tuple[int, Tuple[int, int]]] = {}
         live: Dict[int, int] = {}                               # {address: number}
         for row, is_end, (frame, name) in sorted(self.moments(), key=lambda each: each[:2]):
             self.move(row, is_end, frame, name, live, ends)
-        self.blocks = [each._replace(until=ends[at][0], given=ends[at][1]) if at in ends else each for at, each in enumerate(self.blocks)]
+        self.blocks = [each._replace(until=ends[at][0], given=ends[at][1]) if at in ends else each
+                       for at, each in enumerate(self.blocks)]
 
     @staticmethod
     def is_inside(frame: Optional[Frame], entries: Dict[int, str]) -> bool:
@@ -70,8 +79,10 @@ class Allocator:
             if frame.end is not None:
                 yield self.machine.at.get((frame.hart, frame.end), 1 << 60), True, (frame, name)
 
-    def move(self, row: int, is_end: bool, frame: Frame, name: str, live: Dict[int, int], ends: Dict[int, Tuple[int, Tuple[int, int]]]) -> None:
-        arguments, at = frame.registers[A0:A0 + 2], (frame.hart, frame.count)
+    def move(self, row: int, is_end: bool, frame: Frame, name: str, live: Dict[int, int],
+             ends: Dict[int, Tuple[int, Tuple[int, int]]]) -> None:
+        arguments = frame.registers[A0:A0 + 2]
+        at = (frame.hart, frame.count)
         if not is_end:
             if name == "free" and arguments[0] in live:
                 ends[live.pop(arguments[0])] = row, at
@@ -80,13 +91,15 @@ class Allocator:
             kept = size if name == "calloc" else 0
             if name == "realloc" and arguments[0] in live:
                 old = live.pop(arguments[0])
-                ends[old], kept = (row, at), min(size, self.blocks[old].size)
+                ends[old] = (row, at)
+                kept = min(size, self.blocks[old].size)
             live[frame.result[0]] = len(self.blocks)
             self.blocks.append(Block(frame.result[0], size, kept, row, 1 << 60, at, None))
 
     def is_own(self, row: Row) -> bool:
         """Whether a row is the allocator's."""
-        return row.code.pc in self.entries or self.is_inside(self.machine.frames[row.number], self.entries)
+        return row.code.pc in self.entries or self.is_inside(self.machine.frames[row.number],
+                                                             self.entries)
 
     def of(self, told: Optional[Dict[str, Any]]) -> Optional[Block]:
         """The block that was taken by a call."""
@@ -108,29 +121,35 @@ def ask_memory(asked: Asked, _draw: random.Random) -> None:
     ask_missing(asked, told["findings"], allocator)
 
 
-def ask_finding(asked: Asked, told: Dict[str, Any], allocator: Allocator, undefined: Undefined) -> None:
+def ask_finding(asked: Asked, told: Dict[str, Any], allocator: Allocator,
+                undefined: Undefined) -> None:
     machine = asked.machine
     row = machine.rows[machine.at[told["hart"], told["count"]]]
-    block, what = allocator.of(told["taken"]), (told["kind"], told["text"], row.text)
+    block = allocator.of(told["taken"])
+    what = (told["kind"], told["text"], row.text)
     if told["kind"] in (OVERFLOW, FREED):
         asked.same("memory: taken", [], (what, block is not None), (what, True))
         if not block:
             return
         access = row.load or row.store
-        asked.same("memory: an access", [], (what, access is not None and not allocator.is_own(row)), (what, True))
+        asked.same("memory: an access", [],
+                   (what, access is not None and not allocator.is_own(row)), (what, True))
         is_freed = block.until <= row.number
         asked.same(f"memory: {told['kind']}", [], (what, is_freed), (what, told["kind"] == FREED))
         if is_freed:
             given = told["given_back"]
-            asked.same("memory: given back", [], (what, given and (given["hart"], given["count"])), (what, block.given))
+            asked.same("memory: given back", [], (what, given and (given["hart"], given["count"])),
+                       (what, block.given))
         if access:
             ask_distance(asked, what, row, block)
     elif told["kind"] in (TWICE, NO_BLOCK):
         address = machine_value(machine, row)
-        asked.same(f"memory: {told['kind']}", [], (what, any(each.begin == address and each.is_live(row.number) for each in allocator.blocks)),
-                   (what, False))
+        asked.same(f"memory: {told['kind']}", [],
+                   (what, any(each.begin == address and each.is_live(row.number)
+                              for each in allocator.blocks)), (what, False))
         if told["kind"] == TWICE:
-            was = any(each.begin == address and each.until <= row.number for each in allocator.blocks)
+            was = any(each.begin == address and each.until <= row.number
+                      for each in allocator.blocks)
             asked.same("memory: given back before", [], (what, was), (what, True))
     elif told["kind"] == UNDEFINED:
         asked.same("memory: undefined", [], (what, row.number in undefined.rows), (what, True))
@@ -147,17 +166,22 @@ def ask_distance(asked: Asked, what: Tuple[str, str, str], row: Row, block: Bloc
     access = row.store if said and said[1] == "store" else row.load or row.store
     if not said or not access:
         return
-    number, how, end = int(said[3]), said[4], block.begin + block.size
-    place = {"after": end + number, "before": block.begin - number, "into": block.begin + number, "before the end of": end - number}[how]
+    number = int(said[3])
+    how = said[4]
+    end = block.begin + block.size
+    place = {"after": end + number, "before": block.begin - number, "into": block.begin + number,
+             "before the end of": end - number}[how]
     asked.same("memory: size of the block", [], (what, int(said[5])), (what, block.size))
     asked.same("memory: size of the access", [], (what, int(said[2])), (what, row.code.width))
     asked.same("memory: distance", [], (what, f"{place:08x}"), (what, f"{access.address:08x}"))
 
 
 def ask_missing(asked: Asked, told: List[Dict[str, Any]], allocator: Allocator) -> None:
-    """By its address alone an access is wrong if its byte was given back and isn't taken again, or is behind a block and no block's.
-    Then its function has to be told, with whichever block its pointer is for."""
-    found = {(each["calls"][0]["function"], each["hart"]) for each in told if each["kind"] in (FREED, OVERFLOW) and each["calls"]}
+    """By its address alone an access is wrong if its byte was given back and isn't taken again, or
+    is behind a block and no block's. Then its function has to be told, with whichever block its
+    pointer is for."""
+    found = {(each["calls"][0]["function"], each["hart"])
+             for each in told if each["kind"] in (FREED, OVERFLOW) and each["calls"]}
     seen: Set[Tuple[int, int]] = set()
     for row in asked.machine.rows:
         what = what_is_wrong(row, allocator) if (row.code.pc, row.hart) not in seen else ""
@@ -183,11 +207,13 @@ def what_is_wrong(row: Row, allocator: Allocator) -> str:
 
 
 class Undefined:
-    """rows   those that use a value, in a branch, an address, a jump, or a call of the system or of an allocator. The value can come
+    """rows   those that use a value, in a branch, an address, a jump, or a call of the system or of
+    an allocator. The value can come
               from a byte of a block or a frame that nobody wrote."""
 
     def __init__(self, allocator: Allocator) -> None:
-        self.allocator, machine = allocator, allocator.machine
+        self.allocator = allocator
+        machine = allocator.machine
         self.rows: Set[int] = set()
         self.bytes: Set[int] = set()
         self.registers: Dict[int, Set[str]] = {hart: set() for hart in machine.head.first}
@@ -196,7 +222,8 @@ class Undefined:
         reads = {call.row.number: call for call in machine.calls if call.kind == READ}
         for row in machine.rows:
             block = begun.get(row.number)
-            if block:                           # (what was moved is as the allocator's own rows tell it)
+            # (what was moved is as the allocator's own rows tell it)
+            if block:
                 self.bytes.update(range(block.begin + block.kept, block.begin + block.size))
             self.take(row)
             if row.number in reads:
@@ -204,21 +231,27 @@ class Undefined:
                 self.bytes.difference_update(range(call.address, call.address + call.size))
 
     def take(self, row: Row) -> None:
-        mine, values = self.registers[row.hart], self.values[row.hart]
-        named = set(re.findall(r"\b([a-z]+\d*)\b", row.code.text.partition(" ")[2])) & REGISTER.keys()
+        mine = self.registers[row.hart]
+        values = self.values[row.hart]
+        named = set(re.findall(r"\b([a-z]+\d*)\b",
+                               row.code.text.partition(" ")[2])) & REGISTER.keys()
         written = {row.register} if row.register and not row.code.name.startswith("b") else set()
         sources = self.sources(row, named)
         is_bad = bool(sources & mine)
-        if is_bad and self.is_use(row) or row.code.name == "ecall" and {f"a{i}" for i in range(8)} & mine or row.code.pc in self.allocator.entries:
+        if (is_bad and self.is_use(row) or row.code.name == "ecall"
+                and {f"a{i}" for i in range(8)} & mine or row.code.pc in self.allocator.entries):
             self.rows.add(row.number)
         if row.code.name == "ecall":            # what it writes out is a use, too
             self.rows.add(row.number)
         if row.store:
             touched = set(range(row.store.address, row.store.address + row.code.width))
-            stored = row.code.text.partition(" ")[2].split(",")[0 if not row.code.name.startswith(("sc", "amo")) else 1]
-            (self.bytes.update if stored in mine or row.code.name.startswith("amo") and is_bad else self.bytes.difference_update)(touched)
+            stored = row.code.text.partition(" ")[2].split(
+                ",")[0 if not row.code.name.startswith(("sc", "amo")) else 1]
+            (self.bytes.update if stored in mine or row.code.name.startswith("amo") and is_bad
+             else self.bytes.difference_update)(touched)
         if row.load:
-            is_bad = bool(self.bytes.intersection(range(row.load.address, row.load.address + row.code.width)))
+            is_bad = bool(self.bytes.intersection(range(row.load.address,
+                                                        row.load.address + row.code.width)))
         for name in written:
             (mine.add if is_bad else mine.discard)(name)
             if name == "sp" and row.result < values[SP]:
@@ -229,10 +262,12 @@ class Undefined:
     def sources(row: Row, named: Set[str]) -> Set[str]:
         """The registers that a row reads, at least."""
         operands = row.code.text.partition(" ")[2].split(",")
-        if row.code.name.startswith(("s", "b")) and row.code.name not in ("sub", "sll", "slt", "sltu", "srl", "sra", "slli", "slti", "sltiu", "srli", "srai"):
+        if row.code.name.startswith(("s", "b")) and row.code.name not in (
+                "sub", "sll", "slt", "sltu", "srl", "sra", "slli", "slti", "sltiu", "srli", "srai"):
             return named
         return set(re.findall(r"\b([a-z]+\d*)\b", ",".join(operands[1:]))) & REGISTER.keys()
 
     @staticmethod
     def is_use(row: Row) -> bool:
-        return bool(row.load or row.store or row.fault) or row.code.name.startswith("b") or row.code.name == "jalr"
+        return (bool(row.load or row.store or row.fault) or row.code.name.startswith("b")
+                or row.code.name == "jalr")

@@ -9,7 +9,8 @@ from typing import Any, Dict, List
 from .asking import Asked
 
 DATA = re.compile(r'<script type="application/json" id="data">(.*?)</script>', re.S)
-MOST_ASKED, MOST_ROWS = 3, 60000
+MOST_ASKED = 3
+MOST_ROWS = 60000
 
 
 def place_text(place: List[Any]) -> str:
@@ -31,11 +32,13 @@ def ask_page(asked: Asked, draw: random.Random) -> None:
     most = ["--last", str(questions["most"])]
     for one in draw.sample(questions["variables"], min(MOST_ASKED, len(questions["variables"]))):
         name = one["title"].split(" ")[0] if "(" in one["title"] else one["title"].split(" at ")[-1]
-        told = asked.json("history", name if "(" in one["title"] else f"{name}:{one['title'].split(' ')[0]}", *most)
+        told = asked.json("history", name if "(" in one["title"]
+                          else f"{name}:{one['title'].split(' ')[0]}", *most)
         if told:
             asked.same("page: stores", [name], one["stores"], told["stores"])
             for row, entry in zip(one["rows"], told["entries"]):
-                said = [entry["hart"], entry["count"], entry["old"], "bytes of a read call" if entry["read"] else entry["new"]]
+                said = [entry["hart"], entry["count"], entry["old"],
+                        "bytes of a read call" if entry["read"] else entry["new"]]
                 asked.same("page: store", [name], [*row[:2], *row[3:5]], said)
                 ask_place(asked, name, data["places"][row[5]], entry["place"])
     for one in draw.sample(questions["functions"], min(MOST_ASKED, len(questions["functions"]))):
@@ -49,11 +52,14 @@ def ask_page(asked: Asked, draw: random.Random) -> None:
 
 
 def ask_call(asked: Asked, name: str, row: List[Any], entry: Dict[str, Any]) -> None:
-    arguments = "inlined" if entry["inlined"] else ", ".join(f"{key}={value}" for key, value in entry["arguments"].items())
-    said = [entry["hart"], entry["count"], arguments, entry["result"] or "", -1 if entry["rows"] is None else entry["rows"]]
+    arguments = ("inlined" if entry["inlined"]
+                 else ", ".join(f"{key}={value}" for key, value in entry["arguments"].items()))
+    said = [entry["hart"], entry["count"], arguments, entry["result"] or "",
+            -1 if entry["rows"] is None else entry["rows"]]
     asked.same("page: call", [name], row[:5], said)
 
 
 def ask_place(asked: Asked, name: str, told: List[Any], place: Dict[str, Any]) -> None:
-    true = f"{place['function']} {place['file']}:{place['line']}" if place["line"] else place["function"]
+    true = (f"{place['function']} {place['file']}:{place['line']}" if place["line"]
+            else place["function"])
     asked.same("page: place", [name], place_text(told), true)

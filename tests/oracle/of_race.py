@@ -7,7 +7,9 @@ from typing import Any, Dict, List, NamedTuple, Set, Tuple
 from .asking import Asked
 from .machine import Row, lines_of
 
-MOST, NEAR, FENCE = 20000, 3, 0x0f        # pairs; instructions between an access and its fence; the opcode
+MOST = 20000  # pairs
+NEAR = 3  # instructions between an access and its fence
+FENCE = 0x0f  # the opcode
 Places = Tuple[str, ...]
 
 
@@ -19,12 +21,15 @@ class Pair(NamedTuple):
 
 def pairs_of(asked: Asked) -> List[Pair]:
     found = []
-    for line in lines_of(asked.environment["ZELKUMA_PROGRAM"], "races", asked.recorded.log, asked.recorded.elf, str(MOST)):
+    for line in lines_of(asked.environment["ZELKUMA_PROGRAM"], "races", asked.recorded.log,
+                         asked.recorded.elf, str(MOST)):
         words = line.split(" ")
         if words[0] == "race":
-            one, other = (asked.machine.at.get((int(words[at]), int(words[at + 1])), -1) for at in (1, 3))
+            one, other = (asked.machine.at.get((int(words[at]), int(words[at + 1])), -1)
+                          for at in (1, 3))
             if one >= 0 and other >= 0:
-                found.append(Pair(asked.machine.rows[one], asked.machine.rows[other], int(words[5], 16)))
+                found.append(Pair(asked.machine.rows[one],
+                                  asked.machine.rows[other], int(words[5], 16)))
     return found
 
 
@@ -46,21 +51,25 @@ def ask_race(asked: Asked, _draw: random.Random) -> None:
     asked.program.fetch({row.code.pc for pair in true for row in pair[:2]})
     if not asked.same("race: pairs", [], told["pairs"], len(true)):
         return
-    asked.same("race: pairs of all groups", [], sum(group["pairs"] for group in told["groups"]), len(true))
+    asked.same("race: pairs of all groups", [],
+               sum(group["pairs"] for group in told["groups"]), len(true))
     sizes: Dict[Places, int] = {}
-    words: Dict[Places, Set[int]] = {}          # (a word's pairs are in two groups if fences stand around some of them)
+    # (a word's pairs are in two groups if fences stand around some of them)
+    words: Dict[Places, Set[int]] = {}
     for group in told["groups"]:
         ask_group(asked, group, true)
         places = places_of(asked, group)
         sizes[places] = sizes.get(places, 0) + group["pairs"]
         words.setdefault(places, set()).update(int(word, 16) for word in group["words"])
     for places, size in sizes.items():
-        alike = [pair for pair in true if pair.word in words[places] and tuple(sorted(text_of(asked, row) for row in pair[:2])) == places]
+        alike = [pair for pair in true if pair.word in words[places]
+                 and tuple(sorted(text_of(asked, row) for row in pair[:2])) == places]
         asked.same("race: pairs of the same places", [], (places, size), (places, len(alike)))
 
 
 def places_of(asked: Asked, group: Dict[str, Any]) -> Tuple[str, ...]:
-    rows = [asked.machine.rows[asked.machine.at[end["hart"], end["count"]]] for end in (group["one"], group["other"])]
+    rows = [asked.machine.rows[asked.machine.at[end["hart"], end["count"]]]
+            for end in (group["one"], group["other"])]
     return tuple(sorted(text_of(asked, row) for row in rows))
 
 
@@ -73,7 +82,8 @@ def ask_group(asked: Asked, group: Dict[str, Any], true: List[Pair]) -> None:
     """Its pair is a race, and what both rows did is so."""
     ends = group["one"], group["other"]
     keys = [(end["hart"], end["count"]) for end in ends]
-    found = [pair for pair in true if sorted(keys) == sorted((row.hart, row.ic) for row in pair[:2])]
+    found = [pair
+             for pair in true if sorted(keys) == sorted((row.hart, row.ic) for row in pair[:2])]
     asked.same("race: its pair", [], (keys, bool(found)), (keys, True))
     if not found:
         return
@@ -90,15 +100,20 @@ def ask_judged(asked: Asked, group: Dict[str, Any], rows: List[Row]) -> None:
     """What is said of a group beside its pair."""
     if group["kind"] == "fenced":
         for row in rows:
-            asked.same("race: beside a fence", [], (row.text, stands_beside_fence(asked, row)), (row.text, True))
+            asked.same("race: beside a fence", [],
+                       (row.text, stands_beside_fence(asked, row)), (row.text, True))
     if "in the function that faulted" in group["judged"]:
-        faulted = {place.function for row in asked.machine.rows if row.fault for place in asked.program.places(row.code.pc)}
+        faulted = {place.function for row in asked.machine.rows if row.fault
+                   for place in asked.program.places(row.code.pc)}
         mine = {place.function for row in rows for place in asked.program.places(row.code.pc)}
-        asked.same("race: in the function that faulted", [], (group["judged"], bool(faulted & mine)), (group["judged"], True))
+        asked.same("race: in the function that faulted", [],
+                   (group["judged"], bool(faulted & mine)), (group["judged"], True))
 
 
 def stands_beside_fence(asked: Asked, row: Row) -> bool:
     """An atomic, a load with a fence behind it, or a store with one before."""
     step = -4 if row.store else 4
-    words = [asked.machine.image.word(row.code.pc + step * distance) for distance in range(1, NEAR + 1)]
-    return row.code.name.startswith(("amo", "lr", "sc")) or any(word & 127 == FENCE for word in words)
+    words = [asked.machine.image.word(row.code.pc + step * distance)
+             for distance in range(1, NEAR + 1)]
+    return row.code.name.startswith(("amo", "lr", "sc")) or any(word & 127 == FENCE
+                                                                for word in words)

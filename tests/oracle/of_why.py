@@ -1,4 +1,5 @@
-"""The facts that `why` states: who stored what, what nothing stored, who called, who held a lock."""
+"""The facts that `why` states: who stored what, what nothing stored, who called, who held a
+lock."""
 from __future__ import annotations
 
 import random
@@ -9,17 +10,21 @@ from typing import Any, Dict, List, Optional, Tuple
 from .asking import Asked
 from .machine import NAMES, READ, REGISTER, Machine, Row
 
-NEVER = re.compile(r"from ([\w.[\]]+(?:\+\d+)?)(?: \(a word of \w+\))?, zero from the start: never stored")
+NEVER = re.compile(r"from ([\w.[\]]+(?:\+\d+)?)(?: \(a word of \w+\))?, "
+                   r"zero from the start: never stored")
 WORD = re.compile(r"from ([\w.[\]]+(?:\+\d+)?)(?: \(a word of \w+\))?, ")
-STORED = re.compile(r"(?:, stored (?:last )?|[;,] (?:later )?)in .*? \(hart (\d+) at count ([\d,]+)\)")
+STORED = re.compile(r"(?:, "
+                    r"stored (?:last )?|[;,] (?:later )?)in .*? \(hart (\d+) at count ([\d,]+)\)")
 CALLED = re.compile(r"\s+(?:by [^,]+, )?called from (.*)")
 ROW = re.compile(r"\s+(\d+) (\d+) [0-9a-f]{8} ")
 UNLOCKED = re.compile(r"\s*\d+\. hart (\d+) didn't hold the others' lock in ")
 GOES = re.compile(r"hart (\d+) goes round ")
-LEFT_STACK = re.compile(r"  The stack of hart (\d+) left its [\d,]+ bytes at ([0-9a-f]{8})(?: \(.*?\))?: its pointer was ([0-9a-f]{8})"
-                        r"(?: \(.*?\))?, ([\d,]+) bytes? below them, at count ([\d,]+) in (.*)\.")
+LEFT_STACK = re.compile(r"  The stack of hart (\d+) left its [\d,]+ bytes at ([0-9a-f]{8})(?: "
+                        r"\(.*?\))?: its pointer was ([0-9a-f]{8})(?: \(.*?\))?, "
+                        r"([\d,]+) bytes? below them, at count ([\d,]+) in (.*)\.")
 NULL = re.compile(r"  The null is what (.*) returned to (.*)\.")
-MIDDLE = re.compile(r"  The jump through a pointer in (.*) \(hart (\d+) at count ([\d,]+)\) led into the middle of (.*), to (\w+)\.")
+MIDDLE = re.compile(r"  The jump through a pointer in (.*) \(hart (\d+) at count ([\d,]+)\) led "
+                    r"into the middle of (.*), to (\w+)\.")
 BRANCH = re.compile(r"      [0-9a-f]{8} [0-9a-f]{8} b.*, [\d,]+ times?, last at count ([\d,]+)")
 OPERAND = re.compile(r"      (\w+) is (\w+)")
 NOW = re.compile(r"    ([0-9a-f]{8})(?: \(.*\))?, now ([0-9a-f]{8}), in ")
@@ -30,7 +35,8 @@ LEFT_OUT = re.compile(r"Only the last|left out|--rows N")
 
 
 class Bytes:
-    """Of each byte of a word who stored it, row by row. (A store of the same value stored it, too.)"""
+    """Of each byte of a word who stored it, row by row. (A store of the same value stored it,
+    too.)"""
 
     def __init__(self, machine: Machine) -> None:
         self.machine = machine
@@ -45,7 +51,8 @@ class Bytes:
                 self.changes.setdefault(at, []).append(row.number)
                 known[at] = None
             if row.load:
-                known.update((self.base(row.load.address) + i, row.load.value >> 8 * i & 255) for i in range(4))
+                known.update((self.base(row.load.address) + i, row.load.value >> 8 * i & 255)
+                             for i in range(4))
             if row.store:
                 self.take_store(row, known)
 
@@ -58,17 +65,20 @@ class Bytes:
         for at in range(row.store.address, row.store.address + row.code.width):
             value = row.store.value >> 8 * (at & 3) & 255
             self.stores.setdefault(at, []).append(row.number)
-            before = known.get(at, self.machine.memory.image.byte(at) if not self.machine.head.dropped else None)
+            before = known.get(at, self.machine.memory.image.byte(at)
+                               if not self.machine.head.dropped else None)
             if before != value:
                 self.changes.setdefault(at, []).append(row.number)
-        known.update((self.base(row.store.address) + i, row.store.value >> 8 * i & 255) for i in range(4))
+        known.update((self.base(row.store.address) + i, row.store.value >> 8 * i & 255)
+                     for i in range(4))
 
     def gave(self, store: Row, load: Row) -> bool:
         """Whether a load got a byte that a row stored: none changed it since."""
         if not load.load or not store.store:
             return False
         for at in range(load.load.address, load.load.address + load.code.width):
-            if store.store.address <= at < store.store.address + store.code.width and store.number < load.number:
+            if (store.store.address <= at < store.store.address + store.code.width
+                    and store.number < load.number):
                 if not any(store.number < each < load.number for each in self.changes.get(at, [])):
                     return True
         return False
@@ -81,7 +91,8 @@ def address_of(asked: Asked, name: str) -> Optional[int]:
     """Of an object, its member by gdb, and an offset, or of eight digits."""
     path, _, offset = name.partition("+")
     for base in (path, re.split(r"[.\[]", path)[0]):
-        found = [each.address for each in asked.program.symbols if each.name == base and each.kind == "OBJECT"]
+        found = [each.address
+                 for each in asked.program.symbols if each.name == base and each.kind == "OBJECT"]
         told = asked.program.types["variables"].get(base, {"leaves": []})["leaves"]
         places = [0] * (path == base) + [at for leaf, at, _ in told if leaf == path[len(base):]]
         if len(found) == 1 and places:
@@ -142,30 +153,40 @@ def ask_facts(asked: Asked, told: Dict[str, Any], words: Tuple[str, ...]) -> Non
     asked.same("why: place", words, told["start"]["place"], asked.place(row.code.pc))
     if told["rows"] >= len(asked.machine.rows) - 1:
         stack = [(call["address"], call["function"]) for call in told["calls"]]
-        asked.same("why: calls", words, stack, stack_of(asked, row)[:len(stack)] if len(stack) >= 200 else stack_of(asked, row))
+        asked.same("why: calls", words, stack,
+                   stack_of(asked, row)[:len(stack)] if len(stack) >= 200 else stack_of(asked, row))
     if told["registers"]:
         values = asked.machine.harts[row.hart].registers
-        asked.same("why: registers", words, told["registers"], {name: f"{value:08x}" for name, value in zip(NAMES, values)})
-    own = [each.text for each in asked.machine.rows if each.hart == row.hart and each.number <= row.number]
+        asked.same("why: registers", words, told["registers"],
+                   {name: f"{value:08x}" for name, value in zip(NAMES, values)})
+    own = [each.text
+           for each in asked.machine.rows if each.hart == row.hart and each.number <= row.number]
     asked.same("why: last rows", words, told["last_rows"], own[-len(told["last_rows"]):])
 
 
-def ask_suspect(asked: Asked, words: Tuple[str, ...], suspect: Dict[str, Any], stored: Bytes) -> None:
-    points: List[Dict[str, Any]] = [suspect["guilty"], suspect["store"], suspect["load"], *suspect["extra"]]
+def ask_suspect(asked: Asked, words: Tuple[str, ...],
+                suspect: Dict[str, Any], stored: Bytes) -> None:
+    points: List[Dict[str, Any]] = [suspect["guilty"], suspect["store"],
+                                    suspect["load"], *suspect["extra"]]
     for point in filter(None, points):
         asked.same("why: row of a suspect", words, point["row"], row_at(asked, point).text)
-        asked.same("why: place of a suspect", words, point["place"], asked.place(row_at(asked, point).code.pc))
+        asked.same("why: place of a suspect", words, point["place"],
+                   asked.place(row_at(asked, point).code.pc))
     if suspect["kind"] == "store" and suspect["store"] and suspect["load"]:
         pair = suspect["store"]["row"], suspect["load"]["row"]
-        asked.same("why: stored it", words, (pair, stored.gave(row_at(asked, suspect["store"]), row_at(asked, suspect["load"]))), (pair, True))
+        asked.same("why: stored it", words,
+                   (pair, stored.gave(row_at(asked, suspect["store"]),
+                                      row_at(asked, suspect["load"]))), (pair, True))
 
 
 def ask_hang(asked: Asked, words: Tuple[str, ...], line: str, stored: Bytes) -> None:
-    never, word = NEVER.search(line), WORD.search(line)
+    never = NEVER.search(line)
+    word = WORD.search(line)
     if never:
         address = address_of(asked, never[1])
         if address is not None:
-            asked.same("why: which no row of the log stored", words, (line, stored.is_stored(address, address + 1, 1 << 60)), (line, False))
+            asked.same("why: which no row of the log stored", words,
+                       (line, stored.is_stored(address, address + 1, 1 << 60)), (line, False))
     address = address_of(asked, word[1]) if word else None
     if address is None:
         return
@@ -193,33 +214,40 @@ def ask_now(asked: Asked, words: Tuple[str, ...], line: str) -> None:
 
 
 def ask_stopped(asked: Asked, words: Tuple[str, ...], line: str, hart: int) -> None:
-    """Of all rows the last one of the line, but for what was done seldom, and how often the line was done most."""
+    """Of all rows the last one of the line, but for what was done seldom, and how often the line
+    was done most."""
     stopped = STOPPED.match(line)
     if not stopped:
         return
     row = asked.machine.rows[asked.machine.at[hart, int(stopped[2].replace(",", ""))]]
     mine = [each for each in asked.machine.rows if each.hart == hart]
     runs = Counter(each.code.pc for each in mine)
-    often = {pc for pc, times in runs.items() if times >= OFTEN and line_at(asked, pc) == line_at(asked, row.code.pc)}
-    true = f"{max(runs[pc] for pc in often):,} times, last at count {[each.ic for each in mine if each.code.pc in often][-1]:,}"
+    often = {pc for pc, times in runs.items()
+             if times >= OFTEN and line_at(asked, pc) == line_at(asked, row.code.pc)}
+    true = (f"{max(runs[pc] for pc in often):,} times, "
+            f"last at count {[each.ic for each in mine if each.code.pc in often][-1]:,}")
     asked.same("why: never again", words, line.partition(": ")[0].strip(), true)
-    asked.same("why: place of what stopped", words, (line, stopped[3].startswith(text_of(asked, row))), (line, True))
+    asked.same("why: place of what stopped", words,
+               (line, stopped[3].startswith(text_of(asked, row))), (line, True))
 
 
 def ask_before(asked: Asked, words: Tuple[str, ...], told: Dict[str, Any], stored: Bytes) -> None:
     """Of the loads at its place one has a byte that no row had stored, and that is 0."""
     if told["words"] != "zero from the start: never stored":
         return
-    unset = [unset_bytes(row, stored) for row in asked.machine.rows if row.load and text_of(asked, row) == told["place"]]
+    unset = [unset_bytes(row, stored)
+             for row in asked.machine.rows if row.load and text_of(asked, row) == told["place"]]
     is_so = any(each and not any(each) for each in unset)
-    asked.same("why: never stored", words, (told["words"], told["place"], is_so), (told["words"], told["place"], True))
+    asked.same("why: never stored", words, (told["words"], told["place"], is_so),
+               (told["words"], told["place"], True))
 
 
 def unset_bytes(row: Row, stored: Bytes) -> List[int]:
     """The bytes that a load got and that no row had stored."""
     assert row.load
     first = row.load.address
-    return [row.load.value >> 8 * (at & 3) & 255 for at in range(first, first + row.code.width) if not stored.is_stored(at, at + 1, row.number)]
+    return [row.load.value >> 8 * (at & 3) & 255 for at in range(first, first + row.code.width)
+            if not stored.is_stored(at, at + 1, row.number)]
 
 
 def text_of(asked: Asked, row: Row) -> str:
@@ -234,17 +262,21 @@ def line_at(asked: Asked, pc: int) -> str:
 
 def ask_text(asked: Asked, words: Tuple[str, ...], text: List[str]) -> None:
     """What only the text says."""
-    unlocked, caller = "", ""
+    unlocked = ""
+    caller = ""
     for line in text:
         ask_head(asked, words, line)
-        called, row = CALLED.fullmatch(line), ROW.match(line)
+        called = CALLED.fullmatch(line)
+        row = ROW.match(line)
         if called:
             caller = called[1]
         elif row and caller:
             found = asked.machine.rows[asked.machine.at[int(row[1]), int(row[2])]]
-            chain = asked.program.chain([found.code.pc, *asked.machine.chain(asked.machine.frames[found.number])], 50)[1:]
+            chain = asked.program.chain(
+                [found.code.pc, *asked.machine.chain(asked.machine.frames[found.number])], 50)[1:]
             told = [each.strip() for each in caller.split("  <  ")]
-            asked.same("why: called from", words, (line.strip(), told), (line.strip(), chain[:len(told)]))
+            asked.same("why: called from", words, (line.strip(), told),
+                       (line.strip(), chain[:len(told)]))
             caller = ""
         if UNLOCKED.match(line):
             unlocked = line
@@ -260,8 +292,8 @@ def row_of(asked: Asked, hart: str, count: str) -> Row:
 
 
 def ask_head(asked: Asked, words: Tuple[str, ...], line: str) -> None:
-    """Of a stack that was left the row that set its pointer; of a null a call that returned it; of a jump the
-    function into whose middle it led."""
+    """Of a stack that was left the row that set its pointer; of a null a call that returned it; of
+    a jump the function into whose middle it led."""
     left, null, middle = (each.fullmatch(line) for each in (LEFT_STACK, NULL, MIDDLE))
     if left:
         row = row_of(asked, left[1], left[5])
@@ -271,13 +303,17 @@ def ask_head(asked: Asked, words: Tuple[str, ...], line: str) -> None:
         asked.same("why: so far below", words, (line, f"{below:08x}"), (line, left[3]))
     if null:
         calls = [each for each in asked.machine.all if each.end is not None and each.result[0] == 0]
-        true = {(name_at(asked, each.target), text_of(asked, each.source)) for each in calls if each.source}
-        asked.same("why: returned the null", words, (line, (null[1], null[2]) in true), (line, True))
+        true = {(name_at(asked, each.target), text_of(asked, each.source))
+                for each in calls if each.source}
+        asked.same("why: returned the null", words,
+                   (line, (null[1], null[2]) in true), (line, True))
     if middle:
         row = row_of(asked, middle[2], middle[3])
         to = next(each for each in asked.machine.rows[row.number + 1:] if each.hart == row.hart)
-        inside = [each.name for each in asked.program.symbols if each.address < to.code.pc < each.address + each.size]
-        asked.same("why: jumped into", words, (line, middle[4] in inside, f"{to.code.pc:08x}", text_of(asked, row)),
+        inside = [each.name for each in asked.program.symbols
+                  if each.address < to.code.pc < each.address + each.size]
+        asked.same("why: jumped into",
+                   words, (line, middle[4] in inside, f"{to.code.pc:08x}", text_of(asked, row)),
                    (line, True, middle[5], middle[1]))
 
 
@@ -292,5 +328,6 @@ def ask_lock(asked: Asked, words: Tuple[str, ...], line: str, name: str) -> None
     address = address_of(asked, name)
     if address is None:
         return
-    values = {row.store.value for row in asked.machine.rows if row.store and row.store.address & ~3 == address & ~3}
+    values = {row.store.value
+              for row in asked.machine.rows if row.store and row.store.address & ~3 == address & ~3}
     asked.same("why: held no lock", words, (line, name, len(values) <= 2), (line, name, True))

@@ -140,7 +140,8 @@ OWN int choose{n}(int a) {{ return ways{n}[a & 1](a); }}
 
 
 def reads(draw: Draw, n: str) -> Piece:
-    size, ask = draw.randrange(5, 40), draw.randrange(1, 30)
+    size = draw.randrange(5, 40)
+    ask = draw.randrange(1, 30)
     return Piece(f"""char text{n}[{size + 30}]; int count{n};
 OWN int count_of{n}(const char *text, int size, char what)
 {{
@@ -227,10 +228,12 @@ def calculation(draw: Draw, n: str) -> Piece:
         body = expression(draw, ["a", "b", f"shared{n}"])
         callee = f" + {draw.choice(names)}(b, a)" if names and draw.random() < 0.7 else ""
         own = draw.choice(["OWN", "OWN", "static", ""])
-        code += f"{own} int {name}(int a, int b) {{ shared{n} = {body}; return {expression(draw, ['a', 'b'])}{callee}; }}\n"
+        code += (f"{own} int {name}(int a, int b) {{ shared{n} = {body}; "
+                 f"return {expression(draw, ['a', 'b'])}{callee}; }}\n")
         names.append(name)
     calls = " ".join(f"got ^= {name}(got, {draw.randrange(99)});" for name in names)
-    return Piece(f"int shared{n};\n" + code, f"for (int i = 0; i < {draw.randrange(1, 9)}; i++) {{ {calls} }}")
+    return Piece(f"int shared{n};\n" + code,
+                 f"for (int i = 0; i < {draw.randrange(1, 9)}; i++) {{ {calls} }}")
 
 
 def said(draw: Draw, n: str) -> Piece:
@@ -264,28 +267,35 @@ OWN void share{n}(int h, int times)
 
 
 MAKERS: Dict[str, Maker] = {
-    "recursion": recursion, "mutual": mutual, "rounds": rounds, "seldom": seldom, "assembly": assembly, "indirect": indirect,
-    "reads": reads, "echo": echo, "loops": loops, "moves": moves, "numbers": numbers, "same": same_again, "conditional": conditional,
+    "recursion": recursion, "mutual": mutual, "rounds": rounds, "seldom": seldom,
+    "assembly": assembly, "indirect": indirect,
+    "reads": reads, "echo": echo, "loops": loops, "moves": moves, "numbers": numbers,
+    "same": same_again, "conditional": conditional,
     "calculation": calculation, "said": said}
 ENDS = {
     "exit": "return got & 63;",
     "fault": "{ int *volatile lost = (int *)((got & 0xffff) + 0x7fff0000); return *lost; }",
     "null": "{ static char *volatile none; return none[got & 7]; }",
     "store": "{ *(volatile int *)0x10100 = got; return 0; }",
-    "hang": "{ flag = 0; for (int i = 0; i < 300; i++) work++; while (!*(volatile int *)&flag) ; return 0; }",
+    "hang": "{ flag = 0; for (int i = 0; i < 300; i++) work++; "
+    "while (!*(volatile int *)&flag) ; return 0; }",
     "count": "{ flag = 0; while (!*(volatile int *)&flag) *(volatile int *)&work += 1; return 0; }",
-    "atomic": "{ __atomic_store_n(&flag, 0, __ATOMIC_SEQ_CST); while (!__atomic_load_n(&flag, __ATOMIC_RELAXED)) ; return 0; }",
-    "jump": "{ void (*volatile off)(void) = (void (*)(void))((got & 0xfffc) | 0x40000000); off(); return 0; }",
+    "atomic": "{ __atomic_store_n(&flag, 0, __ATOMIC_SEQ_CST); while (!__atomic_load_n(&flag, "
+    "__ATOMIC_RELAXED)) ; return 0; }",
+    "jump": "{ void (*volatile off)(void) = (void (*)(void))((got & 0xfffc) | 0x40000000); "
+    "off(); return 0; }",
 }
 
 
 # What harts but the first do then.
-OTHERS = "if (h) { return 0; }", "if (h) { while (*(volatile int *)&flag < 77) *(volatile int *)&work += h; return 0; }"
+OTHERS = ("if (h) { return 0; }",
+          "if (h) { while (*(volatile int *)&flag < 77) *(volatile int *)&work += h; return 0; }")
 
 
 def program(draw: Draw, harts: int, names: List[str], end: str) -> str:
     """A program of these pieces."""
-    pieces: List[Tuple[str, Piece]] = [(name, MAKERS[name](draw, str(at))) for at, name in enumerate(names)]
+    pieces: List[Tuple[str, Piece]] = [(name, MAKERS[name](draw, str(at)))
+                                       for at, name in enumerate(names)]
     shared = threads(draw, "t") if harts > 1 else Piece("", "")
     calls = "\n    ".join(piece.call for _, piece in pieces)
     others = draw.choice(OTHERS) if harts > 1 else ""
@@ -351,16 +361,20 @@ static OWN word pop(void)
 
 def drawn_heap_program(draw: random.Random) -> str:
     """Blocks that are taken, written, read and given back, most of them rightly."""
-    code, sizes = [f"blocks[{i}] = malloc({4 + 8 * i});" for i in range(4)], [4, 12, 20, 28]
+    code = [f"blocks[{i}] = malloc({4 + 8 * i});" for i in range(4)]
+    sizes = [4, 12, 20, 28]
     lists = 0
     for _ in range(draw.randrange(10, 60)):
-        i, kind = draw.randrange(4), draw.random()
+        i = draw.randrange(4)
+        kind = draw.random()
         at = draw.randrange(sizes[i])
         wrong = draw.choice([0, 0, 0, 0, 0, sizes[i], sizes[i] + 3])
         if kind < 0.2:
-            code.append(f"set(blocks[{i}], {at if not wrong else wrong + draw.randrange(4)}, {draw.randrange(1, 255)});")
+            code.append(f"set(blocks[{i}], {at if not wrong else wrong + draw.randrange(4)}, "
+                        f"{draw.randrange(1, 255)});")
         elif kind < 0.35:
-            code.append(f"got += get(blocks[{i}], {at if not wrong else wrong + draw.randrange(4)});")
+            code.append(f"got += get(blocks[{i}], "
+                        f"{at if not wrong else wrong + draw.randrange(4)});")
         elif kind < 0.42:
             code.append(f"if (get(blocks[{i}], {at}) & 1) got++;")
         elif kind < 0.5:
@@ -375,13 +389,17 @@ def drawn_heap_program(draw: random.Random) -> str:
             lists -= 1
         elif kind < 0.8:
             sizes[i] = draw.randrange(1, 40)
-            code.append(f"blocks[{i}] = {draw.choice(['realloc(blocks[%d], %d)' % (i, sizes[i]), 'calloc(%d, 1)' % sizes[i]])};")
+            code.append(
+                f"blocks[{i}] = "
+                f"{draw.choice(['realloc(blocks[%d], %d)' % (i, sizes[i]), 'calloc(%d, 1)' % sizes[i]])};")
         elif kind < 0.95:
             sizes[i] = draw.randrange(1, 40)
             code.append(f"free(blocks[{i}]);")
             if draw.random() < 0.15:            # what comes next uses it
-                code.append(draw.choice([f"got += get(blocks[{i}], 0);", f"set(blocks[{i}], 0, 7);", f"free(blocks[{i}]);"]))
+                code.append(draw.choice([f"got += get(blocks[{i}], 0);",
+                                         f"set(blocks[{i}], 0, 7);", f"free(blocks[{i}]);"]))
             code.append(f"blocks[{i}] = malloc({sizes[i]});")
         else:
             code.append(f"put_number(sum(blocks[{i}], {sizes[i]}));")
-    return HEAD + HEAP + "int main(int hart, int harts)\n{\n    word got = 0;\n    " + "\n    ".join(code) + "\n    put_number(got);\n    return got & 15;\n}\n"
+    return (HEAD + HEAP + "int main(int hart, int harts)\n{\n    word got = 0;\n    "
+            + "\n    ".join(code) + "\n    put_number(got);\n    return got & 15;\n}\n")

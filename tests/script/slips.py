@@ -1,5 +1,6 @@
 #!/usr/bin/env python3
-"""Tries that a slip of the hand is answered by what is wrong and what to type next, at a terminal and piped.
+"""Tries that a slip of the hand is answered by what is wrong and what to type next, at a terminal
+and piped.
 
 tests/script/slips.py PROGRAM
 
@@ -123,12 +124,14 @@ def lay_files(program):
         log = file.read()
     with open("heap.elf", "rb") as file:
         elf = file.read()
-    # (in an ELF header: the type at 16, the machine at 18, flags at 36; a program header's address at 8)
+    # (in an ELF header: the type at 16, the machine at 18, flags at 36; a program header's address
+    # at 8)
     segment = int.from_bytes(elf[28:32], "little")
-    write(LOGcut=log[:2000], LOG_gz=gzip.compress(log), LOGbad=edited(log, (len(log) - 100, b"\xa5\x5a")), empty=b"",
-          x86=edited(elf, (18, b"\x3e\0")), compressed=edited(elf, (36, b"\1")), object=edited(elf, (16, b"\1\0")),
-          high=edited(elf, (segment + 8, b"\0\0\0\x80" * 2)), short=elf[:60],
-          stripped_elf=edited(elf, (32, bytes(4)), (48, bytes(4))))
+    write(LOGcut=log[:2000], LOG_gz=gzip.compress(log),
+          LOGbad=edited(log, (len(log) - 100, b"\xa5\x5a")), empty=b"",
+          x86=edited(elf, (18, b"\x3e\0")), compressed=edited(elf, (36, b"\1")),
+          object=edited(elf, (16, b"\1\0")), high=edited(elf, (segment + 8, b"\0\0\0\x80" * 2)),
+          short=elf[:60], stripped_elf=edited(elf, (32, bytes(4)), (48, bytes(4))))
 
 
 def ran(words, at_terminal, kept):
@@ -137,7 +140,8 @@ def ran(words, at_terminal, kept):
     if at_terminal:
         call = [sys.executable, f"{TOP}/tests/script/terminal.py", "--err", kept, *call]
     with open(os.devnull if at_terminal else kept, "wb") as err:
-        status = subprocess.run(call, stdin=subprocess.DEVNULL, stdout=subprocess.DEVNULL, stderr=err, check=False).returncode
+        status = subprocess.run(call, stdin=subprocess.DEVNULL, stdout=subprocess.DEVNULL,
+                                stderr=err, check=False).returncode
     with open(kept, encoding="utf-8", errors="replace") as file:
         return status, file.read()
 
@@ -157,9 +161,11 @@ def main(program):
     with tempfile.TemporaryDirectory() as folder:
         os.chdir(folder)
         lay_files(os.environ["ZELKUMA_PROGRAM"])
-        tried = [(line, at_terminal) for line in SLIPS.strip().splitlines() for at_terminal in (False, True)]
+        tried = [(line, at_terminal) for line in SLIPS.strip().splitlines()
+                 for at_terminal in (False, True)]
         with concurrent.futures.ThreadPoolExecutor(AT_ONCE) as pool:
-            found = list(pool.map(lambda place: failure(*tried[place], f"err-{place}"), range(len(tried))))
+            found = list(
+                pool.map(lambda place: failure(*tried[place], f"err-{place}"), range(len(tried))))
         os.chdir(TOP)
     failed = [text for text in found if text]
     print("".join(failed) + f"{len(tried)} slips, {len(failed)} aren't answered")

@@ -1,10 +1,12 @@
 #!/usr/bin/env python3
-"""Runs words at a terminal of their own, and prints what it shows, with escapes as \\e and returns as \\r.
+"""Runs words at a terminal of their own, and prints what it shows, with escapes as \\e and returns
+as \\r.
 
 tests/script/terminal.py [--stop-at TEXT | --touch-at TEXT FILE | --err FILE] WORD..
 
-When the terminal shows TEXT, Ctrl-C is typed, or FILE is made. The status is that of the words, 128 and the signal if one killed them.
-With --err their err alone is a terminal, and what it shows is put into FILE.
+When the terminal shows TEXT, Ctrl-C is typed, or FILE is made. The status is that of the words, 128
+and the signal if one killed them. With --err their err alone is a terminal, and what it shows is
+put into FILE.
 """
 import os
 import pty
@@ -38,11 +40,15 @@ def run_with_err(file, words):
 def main(words):
     if words[:1] == ["--err"]:
         return run_with_err(words[1], words[2:])
-    awaited, file = None, None
+    awaited = None
+    file = None
     if words[:1] == ["--stop-at"]:
-        awaited, words = words[1].encode(), words[2:]
+        awaited = words[1].encode()
+        words = words[2:]
     elif words[:1] == ["--touch-at"]:
-        awaited, file, words = words[1].encode(), words[2], words[3:]
+        awaited = words[1].encode()
+        file = words[2]
+        words = words[3:]
     process, terminal = pty.fork()
     if process == 0:
         os.environ["TERM"] = "xterm"

@@ -1,4 +1,5 @@
-"""Tries by a client of gdb's protocol what `zelkuma gdb` answers and refuses, on small recordings; needs no gdb."""
+"""Tries by a client of gdb's protocol what `zelkuma gdb` answers and refuses, on small recordings;
+needs no gdb."""
 import hashlib
 import os
 import re
@@ -20,26 +21,34 @@ def case_01_what_gdb_asks_first(recordings):
     log, elf = recordings.example("wild_store")
     client = Client(log, elf)
     assert "qXfer:features:read+" in client("qSupported:multiprocess+;swbreak+")
-    text, at = "", 0
+    text = ""
+    at = 0
     while True:
         piece = client(f"qXfer:features:read:target.xml:{at:x},64")
-        text, at = text + piece[1:], at + len(piece) - 1
+        text = text + piece[1:]
+        at = at + len(piece) - 1
         if piece[0] == "l":
             break
-    assert "<osabi>none</osabi>" in text and text.count("<reg ") == 33 and text.endswith("</target>")
+    assert ("<osabi>none</osabi>" in text and text.count("<reg ") == 33
+            and text.endswith("</target>"))
     assert client("vNoSuchThing") == "" and client("qNoSuchThing") == ""
-    assert client("qC") == "QC1" and client("T1") == "OK" and client("T9") == "E01" and client("Hg7") == "E01"
+    assert (client("qC") == "QC1" and client("T1") == "OK" and client("T9") == "E01"
+            and client("Hg7") == "E01")
     for refused in ("m", "mzz,4", "m-4,4", "p-1", "Z2,5", "p21"):
         assert client(refused) == "E01", refused
     for refused in ("P0=00000000", "G00", "M10000,1:00", "X10000,0:"):
-        assert client(refused) == "E.a recorded run can't be changed, and no function of it called", refused
+        assert (client(refused) == "E.a recorded run can't be changed, "
+                "and no function of it called"), refused
     assert client.close() == 0
-    assert client.err() == "zelkuma: a recorded run can't be changed, and no function of it called\n"     # of M
+    # Of M
+    assert (client.err() == "zelkuma: a recorded run can't be changed, "
+            "and no function of it called\n")
 
 
 def case_02_registers_at_both_ends_and_between(recordings):
     log, elf = recordings.example("hand_over", "--harts", "2", "--seed", "3")
-    reference, client = Reference(log, elf), Client(log, elf)
+    reference = Reference(log, elf)
+    client = Client(log, elf)
     agrees(client, reference)
     for _ in range(9):
         client("vCont;s:1;c")
@@ -73,8 +82,10 @@ def case_04_faults(recordings):
 def case_05_both_ends(recordings):
     log, elf = recordings.words("exit", [addi(T0, 0, 1), addi(T0, T0, 1), *EXIT])
     limit, counter = recordings.example("counter", "--harts", "2", "--limit", "60")
-    for log, elf, why in ((log, elf, "hart 0 exited with 0"), (limit, counter, "hart 0 came to --limit; hart 1 came to --limit")):
-        client, reference = Client(log, elf), Reference(log, elf)
+    for log, elf, why in ((log, elf, "hart 0 exited with 0"),
+                          (limit, counter, "hart 0 came to --limit; hart 1 came to --limit")):
+        client = Client(log, elf)
+        reference = Reference(log, elf)
         assert Stop(client("bs")).end == "begin" and Stop(client("bc")).end == "begin"
         assert client.said == 2 * "zelkuma: the recorded run begins here\n"
         client.said = ""
@@ -92,7 +103,8 @@ def case_05_both_ends(recordings):
 def case_14_more_commands_than_debug_takes(recordings):
     log, elf = recordings.example("hand_over", "--harts", "2", "--seed", "3")
     packets = ["g", "m11230,10", "vCont;s:1;c", "vCont;s:2;c", "bs"] * 30 + ["vCont;c", "g"]
-    whole, small = Client(log, elf), Client(log, elf, room=500)
+    whole = Client(log, elf)
+    small = Client(log, elf, room=500)
     for packet in packets:
         assert whole(packet) == small(packet), packet
     assert whole.close() == 0 and small.close() == 0
@@ -121,11 +133,12 @@ def case_15_interruption_and_leaving(recordings):
 
 
 def case_15_an_interruption_between_packets(recordings):
-    """gdb asks for it on its own way from stop to stop: the next move is interrupted, and none after it."""
+    """gdb asks for it on its own way from stop to stop: the next move is interrupted, and none
+    after it."""
     log, elf = recordings.words("asked", [addi(T0, 0, 1)] * 9 + [*EXIT])
     client = Client(log, elf)
-    for move, back in (("vCont;s:1", "bs"), ("vCont;c", "bc"), ("bs", "vCont;s:1"), ("bc", "vCont;c"),
-                       (f"vCont;r{pc_of(0):x},{pc_of(3):x}:1", "bs")):
+    for move, back in (("vCont;s:1", "bs"), ("vCont;c", "bc"), ("bs", "vCont;s:1"),
+                       ("bc", "vCont;c"), (f"vCont;r{pc_of(0):x},{pc_of(3):x}:1", "bs")):
         client(back)
         client("vCont;s:1")
         at = client.counts()
@@ -137,7 +150,8 @@ def case_15_an_interruption_between_packets(recordings):
     client("bc")
     client(f"Z0,{pc_of(3):x},4")
     client.write(b"\x03")
-    assert Stop(client("vCont;c")).signal == INTERRUPTED        # though a stop is in the first steps that it takes
+    # Though a stop is in the first steps that it takes
+    assert Stop(client("vCont;c")).signal == INTERRUPTED
     assert Stop(client("vCont;c")).pc == pc_of(3)
     assert client.close() == 0
 
@@ -149,14 +163,17 @@ def case_15_killed(recordings):
     assert client("!") == "OK" and client("qfThreadInfo") == "m1"
     client.send("k")
     assert client("?") == "X09" and client("qfThreadInfo") == "l"
-    assert Stop(client("vRun;")).pc == pc_of(0) and client("qfThreadInfo") == "m1" and client("?")[:1] == "T"
+    assert (Stop(client("vRun;")).pc == pc_of(0) and client("qfThreadInfo") == "m1"
+            and client("?")[:1] == "T")
     assert client.close() == 0
 
 
 def refusal(*words, **settings):
-    done = subprocess.run([sys.executable, COMPANION, "gdb", *words], stdin=subprocess.DEVNULL, stdout=subprocess.PIPE,
-                          stderr=subprocess.PIPE, universal_newlines=True, check=False, **settings)
-    assert done.stdout == "" and done.stderr.count("\n") == 1 and "Traceback" not in done.stderr, done.stderr
+    done = subprocess.run([sys.executable, COMPANION, "gdb", *words], stdin=subprocess.DEVNULL,
+                          stdout=subprocess.PIPE, stderr=subprocess.PIPE,
+                          universal_newlines=True, check=False, **settings)
+    assert (done.stdout == "" and done.stderr.count("\n") == 1
+            and "Traceback" not in done.stderr), done.stderr
     return done.returncode, done.stderr
 
 
@@ -180,7 +197,8 @@ def case_15_a_log_whose_harts_wait_for_each_other(recordings):
     edges = b"".join(struct.pack("<BBQBQ", 5, hart, 5, 1 - hart, 9) for hart in (0, 1))
     headers = 92 + 2 * 146
     size, = struct.unpack_from("<I", data, 88)
-    data = data[:88] + struct.pack("<I", size + len(edges)) + data[92:headers] + edges + data[headers:]
+    data = data[:88] + struct.pack("<I",
+                                   size + len(edges)) + data[92:headers] + edges + data[headers:]
     stuck = recordings.write("stuck", data + hashlib.sha256(data).digest())
     client = Client(stuck, elf)
     client.send("vCont;c")
@@ -195,10 +213,12 @@ def case_15_a_log_whose_harts_wait_for_each_other(recordings):
 
 def case_16_port_of_this_machine_alone(recordings):
     log, elf = recordings.example("hand_over", "--harts", "2", "--seed", "3")
-    process = subprocess.Popen([sys.executable, COMPANION, "gdb", log, elf, "--port", "0"], stderr=subprocess.PIPE)
+    process = subprocess.Popen([sys.executable, COMPANION, "gdb", log, elf, "--port", "0"],
+                               stderr=subprocess.PIPE)
     port = int(re.search(rb"port (\d+)", process.stderr.readline())[1])
     with open("/proc/net/tcp", encoding="ascii") as file:
-        assert any(line.split()[1] == f"0100007F:{port:04X}" and line.split()[3] == "0A" for line in file)
+        assert any(line.split()[1] == f"0100007F:{port:04X}" and line.split()[3] == "0A"
+                   for line in file)
     with socket.create_connection(("127.0.0.1", port)) as peer:
         peer.sendall(b"$qC#b4")
         said = b""

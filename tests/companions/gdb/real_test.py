@@ -1,7 +1,7 @@
 """Tries `zelkuma gdb` by the real gdb-multiarch, whose answers are compared with `sessions`.
 
-If gdb isn't installed, nothing is tried. Sessions that need names aren't tried if the compiler isn't there, or makes
-other programs of the examples than those that are kept. It says so.
+If gdb isn't installed, nothing is tried. Sessions that need names aren't tried if the compiler
+isn't there, or makes other programs of the examples than those that are kept. It says so.
 """
 import os
 import random
@@ -17,15 +17,17 @@ from common import COMPANION, EXAMPLES, TOP, content, crash, named_examples, pat
 from recordings import DATA, EXIT, FAULTS, T0, T1, T2, addi, lui, pc_of, store
 from reference import run
 
-GDB, COMPILER = "gdb-multiarch", "riscv64-unknown-elf-gcc"
+GDB = "gdb-multiarch"
+COMPILER = "riscv64-unknown-elf-gcc"
 SESSIONS = os.path.join(os.path.dirname(os.path.abspath(__file__)), "sessions")
 SETTINGS = ["set pagination off", "set confirm off", "set width 0", "set debuginfod enabled off",
             "set architecture riscv:rv32", "set remotetimeout 60"]
 SIGNALS = {4: "SIGILL", 5: "SIGTRAP", 10: "SIGBUS", 11: "SIGSEGV"}
 FLAGS = ("-march=rv32ima -mabi=ilp32 -mstrict-align -g -ffreestanding -fno-pic -nostdlib -static "
          "-fno-tree-loop-distribute-patterns -z max-page-size=4096 -Wl,--build-id=none").split()
-MONKEY_MOVES = ("step next stepi nexti reverse-step reverse-next reverse-stepi reverse-nexti continue "
-                "reverse-continue finish reverse-finish until up bt reverse-step reverse-stepi stepi next").split()
+MONKEY_MOVES = ("step next stepi nexti reverse-step reverse-next reverse-stepi reverse-nexti "
+                "continue reverse-continue finish reverse-finish until up bt reverse-step "
+                "reverse-stepi stepi next").split()
 
 
 def bridge(log, elf, *options):
@@ -37,9 +39,9 @@ def talk(target, commands, names=None):
     lines = list(SETTINGS)
     for number, command in enumerate([f"target remote {target}"] + commands):
         lines += [f"echo \\n@@{number}\\n", command]
-    done = subprocess.run([GDB, "-nx", "-q", *([names] if names else [])], input="\n".join(lines) + "\n",
-                          stdout=subprocess.PIPE, stderr=subprocess.STDOUT, universal_newlines=True, timeout=600,
-                          check=False)
+    done = subprocess.run([GDB, "-nx", "-q", *([names] if names else [])], input="\n".join(lines)
+                          + "\n", stdout=subprocess.PIPE, stderr=subprocess.STDOUT,
+                          universal_newlines=True, timeout=600, check=False)
     text = done.stdout.replace(TOP + "/", "").replace("(gdb) ", "")
     assert "internal-error" not in text, text
     answers = re.split(r"^@@\d+\n", text, flags=re.M)[1:]
@@ -53,10 +55,14 @@ def compare(session, target, names):
         lines = [line.rstrip("\n") for line in file if line[:1] not in ("#", "\n")]
     commands = [line[2:] for line in lines if line.startswith("> ")]
     answers = iter(talk(target, commands, names)[1:])
-    answer, at, command = "", 0, ""
+    answer = ""
+    at = 0
+    command = ""
     for line in lines:
         if line.startswith("> "):
-            answer, at, command = next(answers), 0, line[2:]
+            answer = next(answers)
+            at = 0
+            command = line[2:]
         elif line.startswith("! "):
             assert line[2:] not in answer, f"{session}: {command}: {line!r} is in {answer!r}"
         else:
@@ -77,25 +83,28 @@ class Names:
         folder = named_examples()
         if not folder:
             raise Skipped(f"{COMPILER} isn't installed")
-        if content(os.path.join(EXAMPLES, example + ".elf")) != content(path("built/" + example + ".elf")):
+        if (content(os.path.join(EXAMPLES, example + ".elf"))
+                != content(path("built/" + example + ".elf"))):
             raise Skipped(f"this {COMPILER} makes another {example}.elf")
         return os.path.join(folder, example + ".elf")
 
     def without_optimisation(self, example):
         if not shutil.which(COMPILER):
             raise Skipped(f"{COMPILER} isn't installed")
-        elf, library = path(example + ".O0.elf"), os.path.join(EXAMPLES, "lib")
+        elf = path(example + ".O0.elf")
+        library = os.path.join(EXAMPLES, "lib")
         sources = [os.path.join(library, "start.S"), os.path.join(library, "machine.c"),
                    os.path.join(EXAMPLES, example + ".c")]
-        subprocess.run([COMPILER, *FLAGS, "-O0", "-I", library, "-T", os.path.join(library, "program.ld"), "-o", elf,
-                        *sources], check=True)
+        subprocess.run([COMPILER, *FLAGS, "-O0", "-I", library, "-T",
+                        os.path.join(library, "program.ld"), "-o", elf, *sources], check=True)
         return elf
 
 
 def case_one_hart(names):
     elf = names.of("wild_store")
     log, kept = names.recordings.example("wild_store", "--format", "2")
-    return compare("wild_store", "| " + bridge(log, kept), elf) + compare("watches", "| " + bridge(log, kept), elf)
+    return compare("wild_store", "| " + bridge(log, kept),
+                   elf) + compare("watches", "| " + bridge(log, kept), elf)
 
 
 def case_two_harts(names):
@@ -112,7 +121,8 @@ def case_lines(names):
 def case_port(names):
     elf = names.of("wild_store")
     log, kept = names.recordings.example("wild_store", "--format", "2")
-    process = subprocess.Popen([sys.executable, COMPANION, "gdb", log, kept, "--port", "0"], stderr=subprocess.PIPE)
+    process = subprocess.Popen([sys.executable, COMPANION, "gdb", log, kept, "--port", "0"],
+                               stderr=subprocess.PIPE)
     port = int(process.stderr.readline().split()[1])
     done = compare("port", f"localhost:{port}", elf)
     assert process.wait(timeout=600) == 0
@@ -134,8 +144,8 @@ def case_names_of_the_recorded_file(_):
 
 def case_dropped(names):
     elf = names.of("counter")
-    log, kept = names.recordings.example("counter", "--harts", "4", "--log-size", "16384", "--interval", "64",
-                                         "--limit", "600")
+    log, kept = names.recordings.example("counter", "--harts", "4", "--log-size", "16384",
+                                         "--interval", "64", "--limit", "600")
     return compare("dropped", "| " + bridge(log, kept), elf)
 
 
@@ -143,16 +153,21 @@ def case_all_examples(names):
     """To the end of each and back to its start, with call stacks at both."""
     for example, end, options in (
             ("wild_store", "SIGSEGV", []), ("tills", "SIGSEGV", ["--harts", "2"]),
-            ("hand_over", "SIGSEGV", ["--harts", "2", "--seed", "3"]), ("lock", "history", ["--harts", "2"]),
-            ("counter", "history", ["--harts", "8", "--limit", "500"]), ("sort", "history", ["--limit", "50000"]),
+            ("hand_over", "SIGSEGV", ["--harts", "2", "--seed", "3"]),
+            ("lock", "history", ["--harts", "2"]),
+            ("counter", "history", ["--harts", "8", "--limit", "500"]),
+            ("sort", "history", ["--limit", "50000"]),
             ("two_locks", "history", ["--harts", "2", "--seed", "8", "--limit", "2000"]),
             ("word_count", "history", ["--input", os.path.join(TOP, "LICENSE")])):
         elf = names.of(example)
         log, kept = names.recordings.example(example, *options)
-        answers = talk("| " + bridge(log, kept), ["continue", "bt", "info threads", "reverse-continue", "bt",
-                                                  "monitor at"], elf)
-        assert end in answers[1] and "#0 " in answers[2] and "hart 0 count " in answers[3], (example, answers)
-        assert "No more reverse-execution history" in answers[4] and "#0 _start ()" in answers[5], (example, answers)
+        answers = talk("| " + bridge(log, kept),
+                       ["continue", "bt", "info threads", "reverse-continue", "bt", "monitor at"],
+                       elf)
+        assert end in answers[1] and "#0 " in answers[2] and "hart 0 count " in answers[3], (
+            example, answers)
+        assert "No more reverse-execution history" in answers[4] and "#0 _start ()" in answers[5], (
+            example, answers)
         assert re.search(r"at 0 of \d+ known", answers[6]), (example, answers)
     return 8
 
@@ -161,28 +176,34 @@ def case_faults_without_names(names):
     for name, (signal, words) in FAULTS.items():
         log, elf = names.recordings.words(name, [addi(T2, 0, 1), *words])
         count = int(run("list", log).splitlines()[-1].split()[3])
-        answers = talk("| " + bridge(log, elf), ["continue", "print $t2", "info threads", "reverse-stepi",
-                                                 "continue"])
+        answers = talk("| " + bridge(log, elf),
+                       ["continue", "print $t2", "info threads", "reverse-stepi", "continue"])
         assert f"received signal {SIGNALS[signal]}" in answers[1], (name, answers)
-        assert "= 1" in answers[2] and f"hart 0 count {count} {name})" in answers[3], (name, answers)
+        assert "= 1" in answers[2] and f"hart 0 count {count} {name})" in answers[3], (name,
+                                                                                       answers)
         assert f"received signal {SIGNALS[signal]}" in answers[5], (name, answers)
     return len(FAULTS)
 
 
 def case_one_store_that_two_watch(names):
-    """gdb tells both right behind the store, and on the way back right before it; it passes on then."""
-    log, elf = names.recordings.words("both", [lui(T0, DATA), addi(T1, 0, 0x155), store(T1, T0), addi(T2, 0, 1), *EXIT])
+    """gdb tells both right behind the store, and on the way back right before it; it passes on
+    then."""
+    log, elf = names.recordings.words("both", [lui(T0, DATA), addi(T1, 0, 0x155),
+                                               store(T1, T0), addi(T2, 0, 1), *EXIT])
     watches = [f"watch *(unsigned char *) {DATA + at:#x}" for at in (0, 1)]
-    answers = talk("| " + bridge(log, elf), [*watches, *["continue", "print $pc"] * 2, "stepi", "print $pc", "continue",
-                                             *["reverse-continue", "print $pc"] * 2, "reverse-stepi", "print $pc"])[3:]
+    answers = talk("| " + bridge(log, elf),
+                   [*watches, *["continue", "print $pc"] * 2, "stepi", "print $pc", "continue",
+                    *["reverse-continue", "print $pc"] * 2, "reverse-stepi", "print $pc"])[3:]
     for at, (behind, number, values) in enumerate(((3, 1, ("0", "85")), (3, 2, ("0", "1")))):
         assert f"Hardware watchpoint {number}: " in answers[2 * at], answers
-        assert "Old value = %s" % values[0] in answers[2 * at] and "New value = %s" % values[1] in answers[2 * at], answers
+        assert ("Old value = %s" % values[0] in answers[2 * at]
+                and "New value = %s" % values[1] in answers[2 * at]), answers
         assert f"{pc_of(behind):#x}" in answers[2 * at + 1], answers
     assert f"{pc_of(4):#x}" in answers[5] and "hart 0 exited with 0" in answers[6], answers
     for at, (number, value) in enumerate(((1, "85"), (2, "1"))):
         assert f"Hardware watchpoint {number}: " in answers[7 + 2 * at], answers
-        assert f"Old value = {value}" in answers[7 + 2 * at] and "New value = 0" in answers[7 + 2 * at], answers
+        assert (f"Old value = {value}" in answers[7 + 2 * at]
+                and "New value = 0" in answers[7 + 2 * at]), answers
         assert f"{pc_of(2):#x}" in answers[8 + 2 * at], answers
     assert f"{pc_of(1):#x}" in answers[12], answers
 
@@ -190,9 +211,12 @@ def case_one_store_that_two_watch(names):
 def case_what_cannot_be_done(names):
     """gdb prints why, beside its own words."""
     log, elf = names.recordings.words("fixed", [addi(T2, 0, 1), *EXIT])
-    answers = talk("| " + bridge(log, elf), [f"set var *(int *) {DATA:#x} = 5", "print $t2 = 5", "reverse-stepi", "continue"])
-    for answer, said in zip(answers[1:], ("a recorded run can't be changed", "a recorded run can't be changed",
-                                          "the recorded run begins here", "the recorded run ends here; hart 0 exited with 0")):
+    answers = talk("| " + bridge(log, elf), [f"set var *(int *) {DATA:#x} = 5", "print $t2 = 5",
+                                             "reverse-stepi", "continue"])
+    for answer, said in zip(answers[1:],
+                            ("a recorded run can't be changed", "a recorded run can't be changed",
+                             "the recorded run begins here",
+                             "the recorded run ends here; hart 0 exited with 0")):
         assert said in answer, (said, answer)
 
 
@@ -200,11 +224,14 @@ def monkey(seed, harts, functions, variables):
     """Returns random commands."""
     drawn = random.Random(seed)
     for _ in range(100):
-        kind = drawn.choices(("move", "thread", "break", "watch", "delete", "many", "lock"), (60, 10, 8, 6, 4, 5, 2))[0]
+        kind = drawn.choices(("move", "thread", "break", "watch", "delete", "many", "lock"),
+                             (60, 10, 8, 6, 4, 5, 2))[0]
         yield {"move": drawn.choice(MONKEY_MOVES), "thread": f"thread {drawn.randint(1, harts)}",
-               "break": "break " + drawn.choice(functions), "watch": "watch " + drawn.choice(variables),
-               "delete": "delete", "many": drawn.choice(("stepi %d", "reverse-stepi %d")) % drawn.randint(2, 20),
-               "lock": "set scheduler-locking " + drawn.choice(("on", "off", "replay", "step"))}[kind]
+               "break": "break " + drawn.choice(functions),
+               "watch": "watch " + drawn.choice(variables), "delete": "delete",
+               "many": drawn.choice(("stepi %d", "reverse-stepi %d")) % drawn.randint(2, 20),
+               "lock": "set scheduler-locking " + drawn.choice(("on", "off", "replay", "step"))}[
+            kind]
 
 
 def case_monkey(names):
@@ -212,12 +239,15 @@ def case_monkey(names):
     hits = 0
     for seed, (example, harts, functions, variables, options) in enumerate((
             ("tills", 2, ("sell", "main"), ("left", "shelf[199]"), ("--format", "2")),
-            ("counter", 2, ("count", "main"), ("plain", "guarded"), ("--limit", "400", "--interval", "50")))):
+            ("counter", 2, ("count", "main"), ("plain", "guarded"),
+             ("--limit", "400", "--interval", "50")))):
         elf = names.of(example)
         log, kept = names.recordings.example(example, "--harts", str(harts), *options)
-        commands = [*monkey(seed, harts, functions, variables), "delete", "reverse-continue", "monitor at"]
+        commands = [*monkey(seed, harts, functions, variables), "delete",
+                    "reverse-continue", "monitor at"]
         text = "".join(answers := talk("| " + bridge(log, kept), commands, elf))
-        assert re.search(r"at 0 of \d+ known", answers[-1]) and "Remote connection closed" not in text, text[-2000:]
+        assert re.search(r"at 0 of \d+ known",
+                         answers[-1]) and "Remote connection closed" not in text, text[-2000:]
         hits += text.count(" hit ")
     assert hits > 5, hits
 

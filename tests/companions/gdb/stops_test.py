@@ -1,4 +1,5 @@
-"""Tries by a client of gdb's protocol where `zelkuma gdb` stops, on small recordings; needs no gdb."""
+"""Tries by a client of gdb's protocol where `zelkuma gdb` stops, on small recordings; needs no
+gdb."""
 import re
 
 import cases
@@ -7,25 +8,31 @@ from recordings import (A0, A1, A2, A7, DATA, ECALL, EXIT, SEGV, T0, T1, T2, TRA
                         branch_unless_equal, load, lui, pc_of, store)
 from reference import Reference, agrees, run, size
 
-AMOADD, LR, SC = 0, 2, 3
+AMOADD = 0
+LR = 2
+SC = 3
 
 
 def case_06_breakpoints(recordings):
     log, elf = recordings.example("wild_store")
-    client, reference = Client(log, elf), Reference(log, elf)
+    client = Client(log, elf)
+    reference = Reference(log, elf)
     line = 0x101e8  # the store of a new member's pointer
     counts = [row.count for row in reference.rows if row.pc == line]
     assert client(f"Z0,{line:x},4") == "OK" and client(f"Z0,{line:x},4") == "OK"
     for count in counts[:3]:
         stop = Stop(client("vCont;c"))
         assert (stop.signal, stop.pc, client.counts()) == (TRAP, line, {0: count})
-        assert client("vCont;c") == stop.text  # a hart that is there already is reported, before it moves
+        # A hart that is there already is reported, before it moves
+        assert client("vCont;c") == stop.text
         client("vCont;s:1")
     for count in reversed(counts[:3]):
         assert Stop(client("bc")).pc == line and client.counts() == {0: count}
     assert Stop(client("bc")).end == "begin"
-    assert client(f"z0,{line:x},4") == "OK" and client(f"z0,{line:x},4") == "OK" and client("z0,4,4") == "OK"
-    first, last = reference.rows[0].pc, reference.rows[-1].pc
+    assert (client(f"z0,{line:x},4") == "OK" and client(f"z0,{line:x},4") == "OK"
+            and client("z0,4,4") == "OK")
+    first = reference.rows[0].pc
+    last = reference.rows[-1].pc
     client(f"Z1,{first:x},4")
     assert Stop(client("vCont;c")).pc == first and client.counts() == {0: 0}
     client(f"z1,{first:x},4")
@@ -40,10 +47,12 @@ def case_06_breakpoints(recordings):
 
 
 def watch_program():
-    """Stores of each size to DATA, an atomic addition, a store-conditional that succeeds and one that fails."""
-    return [lui(T0, DATA), addi(T1, 0, 0x55), store(T1, T0, 1, kind=0), store(T1, T0, 2, kind=1), store(T1, T0, 0),
-            atomic(AMOADD, T2, T0, T1), atomic(LR, T2, T0), atomic(SC, T2, T0, T1), atomic(SC, T2, T0, T1),
-            store(T1, T0, 4), store(T1, T0, 4), load(T2, T0, 2, kind=4), *EXIT]
+    """Stores of each size to DATA, an atomic addition, a store-conditional that succeeds and one
+    that fails."""
+    return [lui(T0, DATA), addi(T1, 0, 0x55), store(T1, T0, 1, kind=0), store(T1, T0, 2, kind=1),
+            store(T1, T0, 0), atomic(AMOADD, T2, T0, T1), atomic(LR, T2, T0),
+            atomic(SC, T2, T0, T1), atomic(SC, T2, T0, T1), store(T1, T0, 4), store(T1, T0, 4),
+            load(T2, T0, 2, kind=4), *EXIT]
 
 
 def stops_of(client, forward, backward):
@@ -76,9 +85,11 @@ def case_07_watchpoints(recordings):
     """Each byte, by each kind, in both directions: the rows that access it, and no others."""
     log, elf = recordings.words("watch", watch_program())
     reference = Reference(log, elf)
-    client, checked = Watcher(log, elf), 0
+    client = Watcher(log, elf)
+    checked = 0
     for kind, what in (("2", ("store",)), ("3", ("load",)), ("4", ("load", "store"))):
-        for first, length in [(DATA + i, 1) for i in range(9)] + [(DATA + 3, 2), (DATA, 16), (DATA - 8, 64)]:
+        for first, length in [(DATA + i, 1) for i in range(9)] + [(DATA + 3, 2),
+                                                                  (DATA, 16), (DATA - 8, 64)]:
             expected = [row.count for row in reference.rows for way in what if getattr(row, way)
                         and getattr(row, way)[0] < first + length
                         and first < getattr(row, way)[0] + size(row)]
@@ -86,8 +97,10 @@ def case_07_watchpoints(recordings):
             client.watch = f"{kind},{first:x},{length:x}"
             client.toggle(True)
             forward, backward = stops_of(client, "vCont;c", "bc")
-            assert forward == [(count, first) for count in expected], (kind, first, forward, expected)
-            assert backward == [(count + 1, first) for count in reversed(expected)], (kind, first, backward)
+            assert forward == [(count, first) for count in expected], (kind, first,
+                                                                       forward, expected)
+            assert backward == [(count + 1, first)
+                                for count in reversed(expected)], (kind, first, backward)
             client.toggle(False)
             checked += 1
     assert client.close() == 0
@@ -116,25 +129,34 @@ def case_07_two_that_meet(recordings):
 
 
 def case_07_one_store_that_several_watch(recordings):
-    """All whose bytes it changes are told, and no others: one at the store, each other one behind it, where gdb's step over
-    that stop stays. A stop tells one address, and gdb looks at those that hold it."""
-    log, elf = recordings.words("several", [lui(T0, DATA), addi(T1, 0, 0x155), store(T1, T0, 0), addi(T2, 0, 1), *EXIT])
+    """All whose bytes it changes are told, and no others: one at the store, each other one behind
+    it, where gdb's step over that stop stays. A stop tells one address, and gdb looks at those that
+    hold it."""
+    log, elf = recordings.words("several", [lui(T0, DATA), addi(T1, 0, 0x155),
+                                            store(T1, T0, 0), addi(T2, 0, 1), *EXIT])
     client = Watcher(log, elf)
-    first, second, third, word = f"2,{DATA:x},1", f"2,{DATA + 1:x},1", f"2,{DATA + 2:x},1", f"2,{DATA:x},4"
+    first = f"2,{DATA:x},1"
+    second = f"2,{DATA + 1:x},1"
+    third = f"2,{DATA + 2:x},1"
+    word = f"2,{DATA:x},4"
     for watches, told in (((first, second), [DATA, DATA + 1]), ((second, first), [DATA + 1, DATA]),
-                          ((third, second), [DATA + 1]), ((second, word), [DATA + 1]),
-                          ((word, second, first), [DATA, DATA + 1]), ((second, f"4,{DATA + 2:x},2"), [DATA + 1, DATA + 2])):
+                          ((third, second), [DATA + 1]),
+                          ((second, word), [DATA + 1]), ((word, second, first), [DATA, DATA + 1]),
+                          ((second, f"4,{DATA + 2:x},2"), [DATA + 1, DATA + 2])):
         client.watch = " ".join(watches)
         client.toggle(True)
         forward, backward = stops_of(client, "vCont;c", "bc")
-        assert forward == [(2 + min(1, at), address) for at, address in enumerate(told)], (watches, forward)
-        assert backward == [(3 - min(1, at), address) for at, address in enumerate(told)], (watches, backward)
+        assert forward == [(2 + min(1, at), address)
+                           for at, address in enumerate(told)], (watches, forward)
+        assert backward == [(3 - min(1, at), address)
+                            for at, address in enumerate(told)], (watches, backward)
         client.toggle(False)
     assert client.close() == 0
 
 
 def case_07_owed_watchpoints_that_are_gone(recordings):
-    """What was owed isn't told if it was taken out, the session went elsewhere, or a hart that isn't resumed made the store."""
+    """What was owed isn't told if it was taken out, the session went elsewhere, or a hart that
+    isn't resumed made the store."""
     code = [lui(T0, DATA), addi(T1, 0, 0x155), store(T1, T0, 0), addi(T2, 0, 1), *EXIT]
     log, elf = recordings.words("gone", code, "--harts", "2")
     client = Watcher(log, elf)
@@ -159,7 +181,8 @@ def case_07_owed_watchpoints_that_are_gone(recordings):
     client.toggle(False)
     assert Stop(client("vCont;s:1")).pc == pc_of(4)     # they are taken out
     to_the_store()
-    assert client.monitor("goto 0:1").startswith("at 0:1") and Stop(client("vCont;s:1")).pc == pc_of(2)
+    assert (client.monitor("goto 0:1").startswith("at 0:1")
+            and Stop(client("vCont;s:1")).pc == pc_of(2))
     client.toggle(False)
     assert client.close() == 0
 
@@ -168,9 +191,11 @@ def case_07_what_a_read_fills(recordings):
     """A `read` call writes, so it is a watched access, in both directions."""
     code = [lui(A1, DATA), addi(A1, A1, 6), addi(A2, 0, 5), addi(A0, 0, 0), addi(A7, 0, 63), ECALL,
             store(A2, A1, 2), *EXIT]
-    log, elf = recordings.words("filled", code, "--input", recordings.write("input", b"hello world"))
+    log, elf = recordings.words("filled", code, "--input",
+                                recordings.write("input", b"hello world"))
     client = Watcher(log, elf)
-    for kind, first, expected in (("2", DATA + 5, ()), ("2", DATA + 6, (5,)), ("4", DATA + 10, (5, 6)),
+    for kind, first, expected in (("2", DATA + 5, ()),
+                                  ("2", DATA + 6, (5,)), ("4", DATA + 10, (5, 6)),
                                   ("2", DATA + 11, (6,)), ("3", DATA + 6, ())):
         client.watch = f"{kind},{first:x},1"
         client.toggle(True)
@@ -211,7 +236,8 @@ def waiting_step(client, reference):
 
 def case_09_two_harts(recordings):
     log, elf = recordings.example("counter", "--harts", "2", "--limit", "200")
-    client, reference = Client(log, elf), Reference(log, elf)
+    client = Client(log, elf)
+    reference = Reference(log, elf)
     assert client.harts() == [0, 1] and client("qsThreadInfo") == "l"
     waiting_step(client, reference)
     before = client.counts()
@@ -229,12 +255,14 @@ def case_09_two_harts(recordings):
 
 
 def case_09_who_may_report(recordings):
-    """A breakpoint of hart 0 is reported while hart 1 steps, if both were resumed, and else passed."""
+    """A breakpoint of hart 0 is reported while hart 1 steps, if both were resumed, and else
+    passed."""
     log, elf = recordings.example("counter", "--harts", "2", "--limit", "200")
     reference = Reference(log, elf)
     pc = next(row.pc for row in reference.rows if row.store and row.hart == 0)
     for actions, reported in (("vCont;s:2;c", True), ("vCont;s:2", False)):
-        client, seen = Client(log, elf), False
+        client = Client(log, elf)
+        seen = False
         client(f"Z0,{pc:x},4")
         for _ in range(120):
             stop = Stop(client(actions))
@@ -245,9 +273,11 @@ def case_09_who_may_report(recordings):
 
 
 def case_09_back_over_what_others_did(recordings):
-    """A step back of hart 0 goes back over hart 1's rows since, and stops at a breakpoint of these."""
+    """A step back of hart 0 goes back over hart 1's rows since, and stops at a breakpoint of
+    these."""
     log, elf = recordings.example("counter", "--harts", "2", "--limit", "200")
-    client, reference = Client(log, elf), Reference(log, elf)
+    client = Client(log, elf)
+    reference = Reference(log, elf)
     for packet in ["vCont;s:1"] * 3 + ["vCont;s:2"] * 3:
         client(packet)
     first = reference.by_count[1, 0].pc
@@ -260,7 +290,8 @@ def case_09_back_over_what_others_did(recordings):
         client(packet)
     assert Stop(client("bs")).hart == 0 and client.counts() == {0: 2, 1: 0}
     assert client(f"Z0,{first:x},4") == "OK" and client("Hg2") == "OK"
-    stop = Stop(client("bs"))  # hart 1 has no row to go back over, but hart 0 comes to the breakpoint
+    # Hart 1 has no row to go back over, but hart 0 comes to the breakpoint
+    stop = Stop(client("bs"))
     assert (stop.hart, stop.end, client.counts()) == (0, None, {0: 0, 1: 0}), stop.text
     assert client.close() == 0
 
@@ -291,11 +322,14 @@ def case_10_arrival_behind_the_last_row(recordings):
 
 
 def case_11_the_crash_of_one_of_three(recordings):
-    """Hart 2 counts and then loads from 0; the others count for ever. All have registers at the crash."""
+    """Hart 2 counts and then loads from 0; the others count for ever. All have registers at the
+    crash."""
     code = [addi(T1, 0, 2), addi(T0, T0, 1), addi(T2, 0, 45), branch_unless_equal(T0, T2, -8),
             branch_unless_equal(A0, T1, -12), load(T1, 0)]
-    log, elf = recordings.words("three", code, "--harts", "3", "--interval", "30", "--limit", "1000", "--format", "2")
-    client, reference = Client(log, elf), Reference(log, elf)
+    log, elf = recordings.words("three", code, "--harts", "3", "--interval", "30", "--limit",
+                                "1000", "--format", "2")
+    client = Client(log, elf)
+    reference = Reference(log, elf)
     stop = Stop(client("vCont;c"))
     assert (stop.signal, stop.hart, stop.pc) == (SEGV, 2, pc_of(5))
     assert sorted(client.counts()) == [0, 1, 2]
@@ -306,12 +340,15 @@ def case_11_the_crash_of_one_of_three(recordings):
 
 
 def case_12_a_log_that_lost_its_beginning(recordings):
-    log, elf = recordings.example("counter", "--harts", "4", "--log-size", "16384", "--interval", "200")
-    client, reference = Client(log, elf), Reference(log, elf)
+    log, elf = recordings.example("counter", "--harts", "4", "--log-size", "16384",
+                                  "--interval", "200")
+    client = Client(log, elf)
+    reference = Reference(log, elf)
     assert reference.dropped and client.harts() == [0, 1, 2, 3]
     without = [hart for hart in client.harts() if hart not in client.counts()]
     for hart in without:
-        assert client(f"Hg{hart + 1:x}") == "OK" and client("g") == "x" * 264 and client("p5") == "x" * 8
+        assert (client(f"Hg{hart + 1:x}") == "OK" and client("g") == "x" * 264
+                and client("p5") == "x" * 8)
     assert Stop(client("?")).hart not in without
     begin = client.monitor("at").split()[1]
     agrees(client, reference)
@@ -319,16 +356,18 @@ def case_12_a_log_that_lost_its_beginning(recordings):
     agrees(client, reference)
     client.said = ""
     assert Stop(client("bc")).end == "begin" and client.monitor("at").split()[1] == begin
-    assert client.said == (f"zelkuma: the log begins here, as it has dropped {reference.dropped:,} records before; "
-                           "a larger --log-size keeps more\n")
+    assert client.said == (f"zelkuma: the log begins here, as it has dropped {reference.dropped:,} "
+                           "records before; a larger --log-size keeps more\n")
     assert client.close() == 0
 
 
 def case_13_another_order(recordings):
     """Going back and stepping another hart leads to the same registers at the same counts."""
     log, elf = recordings.example("counter", "--harts", "2", "--limit", "120")
-    client, reference = Client(log, elf), Reference(log, elf)
-    for packets in (["vCont;s:1;c"] * 30, ["bs"] * 12, ["vCont;s:2;c"] * 40, ["bs"] * 5, ["vCont;s:1;c"] * 20):
+    client = Client(log, elf)
+    reference = Reference(log, elf)
+    for packets in (["vCont;s:1;c"] * 30, ["bs"] * 12, ["vCont;s:2;c"] * 40,
+                    ["bs"] * 5, ["vCont;s:1;c"] * 20):
         for packet in packets:
             client(packet)
         agrees(client, reference)

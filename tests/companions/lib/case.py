@@ -1,4 +1,5 @@
-"""unittest on top of the companions' common test functions: recordings by example, and what a companion says."""
+"""unittest on top of the companions' common test functions: recordings by example, and what a
+companion says."""
 import json
 import os
 import re
@@ -12,11 +13,13 @@ logs = {}
 
 def data_of(page):
     """The data that a page of `view` holds."""
-    return json.loads(re.search(r'<script type="application/json" id="data">(.*?)</script>', page, re.S)[1])
+    return json.loads(re.search(r'<script type="application/json" id="data">(.*?)</script>',
+                                page, re.S)[1])
 
 
 class Case(unittest.TestCase):
-    """Examples are named without folder and ending; `elf` is without names, `names` with names and lines."""
+    """Examples are named without folder and ending; `elf` is without names, `names` with names and
+    lines."""
 
     @staticmethod
     def elf(name):
@@ -60,13 +63,16 @@ class Case(unittest.TestCase):
             self.assertTrue(good, seen)
 
     def refused(self, what, status, words, *call, **given):
-        """A call that has to end with a status and one line on err, which holds these words, and print nothing."""
+        """A call that has to end with a status and one line on err, which holds these words, and
+        print nothing."""
         found, said, err = common.companion(*call, **given)
-        good = (found, said, err[:9]) == (status, "", "zelkuma: ") and err.count("\n") == 1 and words in err
+        good = ((found, said, err[:9]) == (status, "", "zelkuma: ")
+                and err.count("\n") == 1 and words in err)
         self.check(what, good, (found, err[-2000:]))
 
     def refuses(self, status, *words):
-        """A companion refuses with one line on err and a status, and prints nothing. Gives the line."""
+        """A companion refuses with one line on err and a status, and prints nothing. Gives the
+        line."""
         found, said, err = common.companion(*words)
         self.assertEqual((found, said), (status, ""), err)
         self.assertRegex(err, r"\Azelkuma: [^\n]+\n\Z")

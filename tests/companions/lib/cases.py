@@ -1,4 +1,5 @@
-"""Test files of functions whose names begin with `case_`, as tests of unittest: each gets the file's own recordings."""
+"""Test files of functions whose names begin with `case_`, as tests of unittest: each gets the
+file's own recordings."""
 import shutil
 import unittest
 
@@ -8,8 +9,9 @@ Skipped = unittest.SkipTest
 
 
 def tests_of(names, needs="", given=lambda recordings: recordings):
-    """The cases among the names of a module, as a class of tests. The recordings are there while its tests run; what is
-    `given` of them is handed to each. `needs` is a program without which all are skipped."""
+    """The cases among the names of a module, as a class of tests. The recordings are there while
+    its tests run; what is `given` of them is handed to each. `needs` is a program without which all
+    are skipped."""
     scratch = Recordings()
 
     class Cases(unittest.TestCase):
@@ -29,7 +31,8 @@ def tests_of(names, needs="", given=lambda recordings: recordings):
         test.__doc__ = function.__doc__
         return test
 
-    Cases.__module__, Cases.__qualname__ = names["__name__"], "Cases"
+    Cases.__module__ = names["__name__"]
+    Cases.__qualname__ = "Cases"
     for name in [name for name in names if name.startswith("case_")]:
         setattr(Cases, "test_" + name[len("case_"):], method(names[name]))
     return Cases

@@ -21,7 +21,9 @@ class Browser:
     """One Chromium with one tab. Use it by `with`."""
 
     def __init__(self):
-        self.number, self.rest, self.events = 0, b"", []
+        self.number = 0
+        self.rest = b""
+        self.events = []
 
     def __enter__(self):
         to_child, self.to_browser = os.pipe()
@@ -29,19 +31,23 @@ class Browser:
         self.home = tempfile.mkdtemp()
 
         def connect():                          # the pipe is file 3 and 4 of Chromium
-            read, write = os.dup(to_child), os.dup(from_child)
+            read = os.dup(to_child)
+            write = os.dup(from_child)
             os.dup2(read, 3)
             os.dup2(write, 4)
 
         self.process = subprocess.Popen(
-            [find(), "--headless", "--no-sandbox", "--disable-gpu", "--hide-scrollbars", "--remote-debugging-pipe",
+            [find(), "--headless", "--no-sandbox", "--disable-gpu", "--hide-scrollbars",
+             "--remote-debugging-pipe",
              "--user-data-dir=" + self.home, "about:blank"],
-            preexec_fn=connect, close_fds=False, stdin=subprocess.DEVNULL, stdout=subprocess.DEVNULL, stderr=subprocess.DEVNULL)
+            preexec_fn=connect, close_fds=False, stdin=subprocess.DEVNULL,
+            stdout=subprocess.DEVNULL, stderr=subprocess.DEVNULL)
         os.close(to_child)
         os.close(from_child)
         self.session = None
         target = self.call("Target.createTarget", url="about:blank")["targetId"]
-        self.session = self.call("Target.attachToTarget", targetId=target, flatten=True)["sessionId"]
+        self.session = self.call("Target.attachToTarget",
+                                 targetId=target, flatten=True)["sessionId"]
         for domain in ("Page", "Runtime", "Log", "Network"):
             self.call(domain + ".enable")
         return self
@@ -85,7 +91,8 @@ class Browser:
 
     def open(self, path, width=1280, height=1500, dark=False, fragment=""):
         """Loads a file and waits until its scripts have run."""
-        self.call("Emulation.setDeviceMetricsOverride", width=width, height=height, deviceScaleFactor=1, mobile=False)
+        self.call("Emulation.setDeviceMetricsOverride", width=width, height=height,
+                  deviceScaleFactor=1, mobile=False)
         self.look(dark)
         self.events = []
         self.call("Page.navigate", url="about:blank")
@@ -113,9 +120,11 @@ class Browser:
 
     def errors(self):
         """What the page's scripts complained of since it was opened."""
-        kinds = {"Runtime.exceptionThrown": lambda p: p["exceptionDetails"].get("exception", {}).get("description", "?"),
-                 "Log.entryAdded": lambda p: p["entry"]["text"] if p["entry"]["level"] == "error" else ""}
-        said = [kinds[event["method"]](event["params"]) for event in self.events if event["method"] in kinds]
+        kinds = {"Runtime.exceptionThrown": lambda p: p["exceptionDetails"].get("exception", {})
+                 .get("description", "?"), "Log.entryAdded": lambda p: p["entry"]["text"]
+                 if p["entry"]["level"] == "error" else ""}
+        said = [kinds[event["method"]](event["params"])
+                for event in self.events if event["method"] in kinds]
         return [text for text in said if text]
 
     def requests(self):
@@ -124,7 +133,8 @@ class Browser:
                 if event["method"] == "Network.requestWillBeSent"]
 
     def mouse(self, kind, x, y, clicks=1):
-        self.call("Input.dispatchMouseEvent", type=kind, x=x, y=y, button="left" if kind != "mouseMoved" else "none",
+        self.call("Input.dispatchMouseEvent", type=kind, x=x, y=y,
+                  button="left" if kind != "mouseMoved" else "none",
                   buttons=0 if kind == "mouseReleased" else 1, clickCount=clicks)
 
     def click(self, x, y):
@@ -133,9 +143,9 @@ class Browser:
 
     def click_on(self, selector):
         """Scrolls an element into view and clicks into its middle."""
-        x, y = self.run("(() => { const e = document.querySelector(%s); e.scrollIntoView({block: 'center'});"
-                        " const b = e.getBoundingClientRect(); return [b.left + b.width / 2, b.top + b.height / 2]; })()"
-                        % json.dumps(selector))
+        x, y = self.run("(() => { const e = document.querySelector(%s); e.scrollIntoView({block: "
+                        "'center'}); const b = e.getBoundingClientRect(); return [b.left + b.width "
+                        "/ 2, b.top + b.height / 2]; })()" % json.dumps(selector))
         self.click(x, y)
 
     def drag(self, x1, x2, y):
@@ -157,4 +167,5 @@ class Browser:
             file.write(base64.b64decode(shot["data"]))
 
     def pdf(self):
-        return base64.b64decode(self.call("Page.printToPDF", printBackground=True, preferCSSPageSize=True)["data"])
+        return base64.b64decode(self.call("Page.printToPDF", printBackground=True,
+                                          preferCSSPageSize=True)["data"])

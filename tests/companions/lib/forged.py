@@ -5,15 +5,19 @@ import subprocess
 
 import common
 
-EDGE, SIZES = 5, {1: 146, 2: 10, 3: 2, 4: 2, 5: 19, 6: 15}      # of version 1's records
-RECORDS, DIGEST = 92, 32
+# Of version 1's records
+EDGE = 5
+SIZES = {1: 146, 2: 10, 3: 2, 4: 2, 5: 19, 6: 15}
+RECORDS = 92
+DIGEST = 32
 
 
 def stuck(elf):
-    """A log of two harts that wait for each other: its first Edge leads from a later count than the run had."""
+    """A log of two harts that wait for each other: its first Edge leads from a later count than the
+    run had."""
     log = common.path("stuck.log")
-    subprocess.run([common.PROGRAM, "record", "--seed", "1", "--harts", "2", elf, log, common.path("book")],
-                   stdout=subprocess.DEVNULL, stderr=subprocess.DEVNULL)
+    subprocess.run([common.PROGRAM, "record", "--seed", "1", "--harts", "2", elf, log,
+                    common.path("book")], stdout=subprocess.DEVNULL, stderr=subprocess.DEVNULL)
     data = bytearray(common.content(log))
     at = RECORDS
     while data[at] != EDGE:

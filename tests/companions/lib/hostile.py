@@ -6,21 +6,28 @@ import subprocess
 
 import common
 
-NAMES = ("</script><script>document.title='hit'</script>", "<img src=x onerror=document.title='hit'>@DATA@@STYLE@",
-         "\"onmouseover='document.title=1'&amp;<!--", "\x1b[31mred\x07\x00"[:-1], "@DATA@ @SCRIPT@ @STYLE@")
-FUNCTION, OBJECT, GLOBAL = 2, 1, 16
-SYMBOL_TABLE, STRINGS = 2, 3
+NAMES = ("</script><script>document.title='hit'</script>",
+         "<img src=x onerror=document.title='hit'>@DATA@@STYLE@",
+         "\"onmouseover='document.title=1'&amp;<!--", "\x1b[31mred\x07\x00"[:-1],
+         "@DATA@ @SCRIPT@ @STYLE@")
+FUNCTION = 2
+OBJECT = 1
+GLOBAL = 16
+SYMBOL_TABLE = 2
+STRINGS = 3
 
 
 def with_symbols(elf, functions, objects):
     """The bytes of a stripped ELF with a symbol table; both are lists of (name, address, size)."""
     data = bytearray(common.content(elf))
-    strings, symbols = b"\0", b"\0" * 16
+    strings = b"\0"
+    symbols = b"\0" * 16
     for kind, items in ((FUNCTION, functions), (OBJECT, objects)):
         for name, address, size in items:
             symbols += struct.pack("<IIIBBH", len(strings), address, size, GLOBAL | kind, 0, 1)
             strings += name.encode("utf-8") + b"\0"
-    strings_at, symbols_at = len(data), len(data) + len(strings)
+    strings_at = len(data)
+    symbols_at = len(data) + len(strings)
     headers_at = symbols_at + len(symbols)
     data += strings + symbols
     for header in ((0,) * 10, (0, SYMBOL_TABLE, 0, 0, symbols_at, len(symbols), 2, 1, 4, 16),
@@ -44,7 +51,8 @@ def code_range(elf):
 
 
 def files(elf, log):
-    """Copies of a log and its ELF, and an ELF of names, all of hostile names: the words of a companion."""
+    """Copies of a log and its ELF, and an ELF of names, all of hostile names: the words of a
+    companion."""
     folder = common.path("hostile")
     os.makedirs(folder, exist_ok=True)
     new_log, new_elf, names = (os.path.join(folder, name.replace("/", "")) for name in NAMES[:3])
@@ -68,10 +76,13 @@ int other_harts(int hart, int harts) { return hart + harts; }
 
 def compiled():
     """A program that crashes in a source of a hostile name, in a line of hostile text."""
-    source, elf = common.path("<img src=x onerror=alert(1)>.c"), common.path("compiled.elf")
+    source = common.path("<img src=x onerror=alert(1)>.c")
+    elf = common.path("compiled.elf")
     common.written(source, SOURCE)
     library = os.path.join(common.EXAMPLES, "lib")
-    subprocess.run(["riscv64-unknown-elf-gcc", "-march=rv32ima", "-mabi=ilp32", "-O1", "-g", "-ffreestanding", "-nostdlib",
-                    "-static", "-I", library, "-T", os.path.join(library, "program.ld"), "-z", "max-page-size=4096",
-                    "-Wl,--build-id=none", "-o", elf, os.path.join(library, "start.S"), source], check=True)
+    subprocess.run(["riscv64-unknown-elf-gcc", "-march=rv32ima", "-mabi=ilp32", "-O1", "-g",
+                    "-ffreestanding", "-nostdlib", "-static", "-I", library, "-T",
+                    os.path.join(library, "program.ld"), "-z", "max-page-size=4096",
+                    "-Wl,--build-id=none", "-o", elf, os.path.join(library, "start.S"), source],
+                   check=True)
     return elf

@@ -1,4 +1,5 @@
-"""Inputs for the readers of programs/inputs.c: some kilobytes drawn by chance, with the one piece that brings the bug out."""
+"""Inputs for the readers of programs/inputs.c: some kilobytes drawn by chance, with the one piece
+that brings the bug out."""
 import os
 import random
 import subprocess
@@ -6,8 +7,10 @@ from typing import NamedTuple
 
 HERE = os.path.dirname(os.path.abspath(__file__))
 TOP = os.path.dirname(os.path.dirname(os.path.dirname(HERE)))
-FLAGS = ("-march=rv32ima -mabi=ilp32 -mstrict-align -O2 -g -ffreestanding -fno-pic -fno-tree-loop-distribute-patterns -Wno-unused-function "
-         "-nostdlib -static -z max-page-size=4096 -Wl,--build-id=none -I examples/lib -T examples/lib/program.ld").split()
+FLAGS = ("-march=rv32ima -mabi=ilp32 -mstrict-align -O2 -g -ffreestanding -fno-pic "
+         "-fno-tree-loop-distribute-patterns -Wno-unused-function -nostdlib -static -z "
+         "max-page-size=4096 -Wl,--build-id=none -I examples/lib -T "
+         "examples/lib/program.ld").split()
 SOURCES = "examples/lib/start.S", "examples/lib/machine.c", "tests/companions/lib/programs/inputs.c"
 LETTERS = "abcdefghijklmnopqrstuvwxyzABCDEFGH0123"
 
@@ -23,7 +26,8 @@ class Reader(NamedTuple):
 
 def build(name, elf):
     """Compiles a reader. OSError or CalledProcessError without a compiler."""
-    subprocess.run(["riscv64-unknown-elf-gcc", *FLAGS, f"-DREADER={name}", "-o", elf, *SOURCES], check=True, cwd=TOP)
+    subprocess.run(["riscv64-unknown-elf-gcc", *FLAGS, f"-DREADER={name}", "-o", elf, *SOURCES],
+                   check=True, cwd=TOP)
 
 
 def readers(seed=7):
@@ -46,18 +50,26 @@ def readers(seed=7):
         return draw.choice(("{%s}", "[%s]")) % ",".join(nested(depth + 1) for _ in range(3))
 
     def postfix():
-        return "".join(draw.choice("123456789") for _ in range(6)) + "".join(draw.choice("+*") for _ in range(5))
+        return "".join(draw.choice("123456789") for _ in range(6)) + "".join(draw.choice("+*")
+                                                                             for _ in range(5))
 
     pool = [word(3, 9) for _ in range(15)]
     return {
-        "settings": Reader(lines(500, lambda: f"{word(3, 20)} = {word(2, 12)}", 340, word(31, 31) + " = 5"), 40),
-        "table": Reader(lines(800, lambda: ",".join(word(1, 9) for _ in range(5)), 511, "a,b,(12),d"), 1),
-        "packets": Reader(b"".join(packet() for _ in range(700)) + b"\7\3\310\1\2" + b"".join(packet() for _ in range(200)), 20),
+        "settings": Reader(
+            lines(500, lambda: f"{word(3, 20)} = {word(2, 12)}", 340, word(31, 31) + " = 5"), 40),
+        "table": Reader(
+            lines(800, lambda: ",".join(word(1, 9) for _ in range(5)), 511, "a,b,(12),d"), 1),
+        "packets": Reader(b"".join(packet() for _ in range(700)) + b"\7\3\310\1\2"
+                          + b"".join(packet() for _ in range(200)), 20),
         "postfix": Reader(lines(900, postfix, 700, "12+*3"), 8),
-        "sections": Reader(lines(200, lambda: "\n".join([f"[{word(3, 9)}]"] + [f"= {word(4, 9)}" for _ in range(6)]), 150,
+        "sections": Reader(lines(200,
+                                 lambda: "\n".join([f"[{word(3, 9)}]"]
+                                                   + [f"= {word(4, 9)}" for _ in range(6)]), 150,
                                  '[gone]\n= 1\n[-gone]\n"remember me"\n= 2'), 16),
         "nested": Reader(lines(150, nested, 77, "[" * 9 + "a" + "{" * 11 + "b"), 60),
-        "names": Reader(lines(900, lambda: draw.choice(pool), 700, "seventeen\neighteen"), 60, ("--limit", "3000000")),
-        "bookings": Reader(lines(900, lambda: "".join(draw.choice("- x") for _ in range(11)), 600, "a+b+c+d+e+f+g+h+i+j+k+l+"), 12,
+        "names": Reader(lines(900, lambda: draw.choice(pool), 700, "seventeen\neighteen"),
+                        60, ("--limit", "3000000")),
+        "bookings": Reader(lines(900, lambda: "".join(draw.choice("- x") for _ in range(11)), 600,
+                                 "a+b+c+d+e+f+g+h+i+j+k+l+"), 12,
                            (), "debt is too high"),
     }

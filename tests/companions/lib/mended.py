@@ -1,4 +1,5 @@
-"""Programs with a known race, and what mends each: changes of its source, true ones and half ones, built as the examples are."""
+"""Programs with a known race, and what mends each: changes of its source, true ones and half ones,
+built as the examples are."""
 import os
 import shutil
 import subprocess
@@ -7,13 +8,15 @@ from typing import NamedTuple
 import common
 
 COMPILER = "riscv64-unknown-elf-gcc"
-FLAGS = ("-march=rv32ima", "-mabi=ilp32", "-mstrict-align", "-g", "-ffreestanding", "-fno-pic", "-fno-tree-loop-distribute-patterns",
-         "-nostdlib", "-static", "-z", "max-page-size=4096", "-Wl,--build-id=none")
+FLAGS = ("-march=rv32ima", "-mabi=ilp32", "-mstrict-align", "-g", "-ffreestanding",
+         "-fno-pic", "-fno-tree-loop-distribute-patterns", "-nostdlib", "-static", "-z",
+         "max-page-size=4096", "-Wl,--build-id=none")
 LIB = os.path.join(common.EXAMPLES, "lib")
 
 
 class Program(NamedTuple):
-    """The source, the options of a recording that ends badly, its turns, and {change: what is put in place of what}."""
+    """The source, the options of a recording that ends badly, its turns, and {change: what is put
+    in place of what}."""
     source: str
     options: tuple
     schedule: str
@@ -86,14 +89,16 @@ def built(name, change="", level="-O2"):
     elf = os.path.join(folder, name + ".elf")
     if not os.path.exists(elf):
         source = common.written(os.path.join(folder, name + ".c"), source_of(name, change))
-        subprocess.run([COMPILER, *FLAGS, level, "-I", LIB, "-T", os.path.join(LIB, "program.ld"), "-o", elf,
-                        os.path.join(LIB, "start.S"), os.path.join(LIB, "machine.c"), source], check=True)
+        subprocess.run([COMPILER, *FLAGS, level, "-I", LIB, "-T",
+                        os.path.join(LIB, "program.ld"), "-o", elf, os.path.join(LIB, "start.S"),
+                        os.path.join(LIB, "machine.c"), source], check=True)
     return elf
 
 
 def recorded(name):
     """LOG, ELF and BOOK of the program as it is."""
-    program, elf = PROGRAMS[name], built(name)
+    program = PROGRAMS[name]
+    elf = built(name)
     log = common.path(f"mended_{name}.log")
     if not os.path.exists(log):
         common.record("mended_" + name, elf, *program.options, schedule=program.schedule)

@@ -1,11 +1,13 @@
-"""picture.py PAGE PNG [DARK-PNG]: the first screen of a page of `zelkuma view`, down to the end of its timeline, in a light
-and in a dark theme."""
+"""picture.py PAGE PNG [DARK-PNG]: the first screen of a page of `zelkuma view`, down to the end of
+its timeline, in a light and in a dark theme."""
 import sys
 
 import chromium
 
-WIDTH, MARGIN = 1280, 14
-BOTTOM = "document.getElementById('timeline').closest('.card').getBoundingClientRect().bottom + scrollY"
+WIDTH = 1280
+MARGIN = 14
+BOTTOM = ("document.getElementById('timeline').closest('.card').getBoundingClientRect().bottom "
+          "+ scrollY")
 
 
 def main(page, *pictures):

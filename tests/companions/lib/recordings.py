@@ -1,4 +1,5 @@
-"""Small recordings for tests: of the examples, and of programs that are written here by their words."""
+"""Small recordings for tests: of the examples, and of programs that are written here by their
+words."""
 import os
 import struct
 import subprocess
@@ -9,11 +10,21 @@ from common import EXAMPLES, PROGRAM
 
 if not os.access(PROGRAM, os.X_OK):
     sys.exit(f"{sys.argv[0]}: {PROGRAM} is no program; ZELKUMA_PROGRAM names one")
-CODE, DATA, DATA_SIZE = 0x10000, 0x20000, 4096
+CODE = 0x10000
+DATA = 0x20000
+DATA_SIZE = 4096
 FIRST = CODE + 116  # where the code begins, after the headers
 
-T0, T1, T2, A0, A1, A2, A7 = 5, 6, 7, 10, 11, 12, 17
-EBREAK, ECALL, NO_INSTRUCTION = 0x00100073, 0x00000073, 0xffffffff
+T0 = 5
+T1 = 6
+T2 = 7
+A0 = 10
+A1 = 11
+A2 = 12
+A7 = 17
+EBREAK = 0x00100073
+ECALL = 0x00000073
+NO_INSTRUCTION = 0xffffffff
 
 
 def immediate(opcode, kind, to, base, value):
@@ -29,7 +40,8 @@ def load(to, base, offset=0, kind=2):
 
 
 def store(value, base, offset=0, kind=2):
-    return (offset >> 5 & 127) << 25 | value << 20 | base << 15 | kind << 12 | (offset & 31) << 7 | 0x23
+    return ((offset >> 5 & 127) << 25 | value << 20 | base << 15 | kind << 12
+            | (offset & 31) << 7 | 0x23)
 
 
 def atomic(kind, to, address, value=0):
@@ -52,7 +64,10 @@ def branch_unless_equal(one, other, offset):
 EXIT = (addi(A7, 0, 93), ECALL)
 
 # Each fault: gdb's number of its signal, and words whose last one faults.
-SEGV, ILL, BUS, TRAP = 11, 4, 10, 5
+SEGV = 11
+ILL = 4
+BUS = 10
+TRAP = 5
 FAULTS = {
     "Illegal": (ILL, [NO_INSTRUCTION]),
     "Breakpoint": (TRAP, [EBREAK]),
@@ -71,7 +86,8 @@ def pc_of(index):
 
 
 def elf_of(words, data=b""):
-    """Returns an ELF with these words as read-only code, and a page of data that begins with these bytes."""
+    """Returns an ELF with these words as read-only code, and a page of data that begins with these
+    bytes."""
     size = 4 * len(words)
     ident = b"\x7fELF\x01\x01\x01" + bytes(9)
     header = struct.pack("<HHIIIIIHHHHHH", 2, 243, 1, FIRST, 52, 0, 0, 52, 32, 2, 0, 0, 0)
@@ -85,7 +101,8 @@ class Recordings:
 
     def __enter__(self):
         self._scratch = tempfile.TemporaryDirectory()
-        self.folder, self._count = self._scratch.name, 0
+        self.folder = self._scratch.name
+        self._count = 0
         return self
 
     def __exit__(self, *_):

@@ -1,4 +1,5 @@
-"""What `joint` and a `debug` session of its own say of a small log: the bridge has to say the same."""
+"""What `joint` and a `debug` session of its own say of a small log: the bridge has to say the
+same."""
 import re
 import struct
 import subprocess
@@ -55,9 +56,11 @@ class Reference:
         count, = struct.unpack_from("<H", data, 44)
         self.segments = []
         for i in range(count):
-            kind, offset, address, _, in_file, in_memory, flags, _ = struct.unpack_from("<8I", data, first + 32 * i)
+            kind, offset, address, _, in_file, in_memory, flags, _ = struct.unpack_from(
+                "<8I", data, first + 32 * i)
             if kind == 1:
-                self.segments.append((address, data[offset:offset + in_file].ljust(in_memory, b"\0"), not flags & 2))
+                self.segments.append(
+                    (address, data[offset:offset + in_file].ljust(in_memory, b"\0"), not flags & 2))
 
     def _walk(self, log, elf):
         """Steps through the whole log in the order of `joint`, and keeps each state."""
@@ -82,18 +85,21 @@ class Reference:
         process.wait()
 
     def _keep(self, ask, words):
-        if words[1] == "done" or words[2] == "--------" or (int(words[0]), int(words[1])) in self.states:
+        if (words[1] == "done" or words[2] == "--------"
+                or (int(words[0]), int(words[1])) in self.states):
             return
         ask("hart " + words[0])
         values = re.findall(r"=([0-9a-f]{8})", " ".join(ask("regs")))
         if len(values) == 32:
-            self.states[int(words[0]), int(words[1])] = [int(value, 16) for value in values + [words[2]]]
+            self.states[int(words[0]), int(words[1])] = [int(value, 16)
+                                                         for value in values + [words[2]]]
 
     def _fills_of(self, row):
         """What a `read` call filled: [((hart, count), address, length)]."""
         state = self.states.get((row.hart, row.count))
         result = re.search(r" ecall \| a0=([0-9a-f]{8})", row.text)
-        if not state or not result or state[17] != 63 or state[10] or not 0 < int(result[1], 16) <= 4096:
+        if (not state or not result or state[17] != 63 or state[10]
+                or not 0 < int(result[1], 16) <= 4096):
             return []
         return [((row.hart, row.count), state[11], int(result[1], 16))]
 
@@ -106,24 +112,29 @@ class Reference:
         return [row for row in self.rows if row.count < counts.get(row.hart, 0) and not row.fault]
 
     def word(self, counts, address):
-        """Returns the bytes of a word at these counts of the harts, or None if they aren't known."""
+        """Returns the bytes of a word at these counts of the harts, or None if they aren't
+        known."""
         for first, data, is_read_only in self.segments:
             if is_read_only and first <= address and address + 4 <= first + len(data):
                 return data[address - first:address - first + 4]
-        value, touched = None, False
+        value = None
+        touched = False
         for row in self.taken(counts):
             for at in (row.load, row.store):
                 if at and at[0] & ~3 == address:
-                    value, touched = struct.pack("<I", at[1]), True
+                    value = struct.pack("<I", at[1])
+                    touched = True
             for first, length in self.fills_at(row):
                 if first < address + 4 and address < first + length:
-                    value, touched = None, True
+                    value = None
+                    touched = True
         if touched or self.dropped or not 4096 <= address < self.memory:
             return value
         return bytes(self._first_byte(address + i) for i in range(4))
 
     def later_word(self, counts, address):
-        """Returns the bytes that the first row after these counts loads, if it touches the word, else None."""
+        """Returns the bytes that the first row after these counts loads, if it touches the word,
+        else None."""
         if any(hart not in counts for hart in self.harts):
             return None  # the log has accesses of that hart only later
         for row in self.rows:
@@ -133,7 +144,8 @@ class Reference:
                 return struct.pack("<I", row.load[1])
             if row.store and row.store[0] & ~3 == address:
                 return None
-            if any(first < address + 4 and address < first + length for first, length in self.fills_at(row)):
+            if any(first < address + 4 and address < first + length
+                   for first, length in self.fills_at(row)):
                 return None
         return None
 

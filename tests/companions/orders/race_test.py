@@ -8,8 +8,14 @@ import common
 from companion.call.errors import FOUND
 from companion.recording import fences, races
 
-LOAD, STORE, ADD, BRANCH = 0x0007a703, 0x00e7a023, 0x00000013, 0xfef6fce3       # lw, sw, addi, bgeu
-FENCE_ALL, FENCE_RELEASE, FENCE_WRITES = 0x0ff0000f, 0x0310000f, 0x0110000f      # iorw,iorw; rw,w; w,w
+# Lw, sw, addi, bgeu
+LOAD = 0x0007a703
+STORE = 0x00e7a023
+ADD = 0x00000013
+BRANCH = 0xfef6fce3
+FENCE_ALL = 0x0ff0000f  # iorw,iorw
+FENCE_RELEASE = 0x0310000f  # rw,w
+FENCE_WRITES = 0x0110000f  # w,w
 
 
 def counts(text):
@@ -31,13 +37,17 @@ class RaceTest(case.Case):
 
     def test_fenced_accesses_come_last(self):
         text = self.says("race", self.tills(), self.elf("tills"), "--names", self.names("tills"))
-        ordered, fenced = text.index("\nORDERED BY FENCES"), text.index("\nFENCED")
+        ordered = text.index("\nORDERED BY FENCES")
+        fenced = text.index("\nFENCED")
         self.assertLess(ordered, fenced)
-        self.assertNotIn("main tills.c:67", text[:ordered])     # left = THINGS, which `ready` orders
-        self.assertRegex(text[fenced:], r"46\d  ready \(000118c0\) +wait_for_both tills.c:46  and  wait_for_both tills.c:47\n\Z")
+        # Left = THINGS, which `ready` orders
+        self.assertNotIn("main tills.c:67", text[:ordered])
+        self.assertRegex(text[fenced:], r"46\d  ready \(000118c0\) +wait_for_both tills.c:46  and  "
+                         r"wait_for_both tills.c:47\n\Z")
 
     def test_every_pair_of_the_program_is_in_one_group(self):
-        for name, options in (("tills", ("--seed", "1", "--harts", "2")), ("counter", ("--seed", "1", "--harts", "4")),
+        for name, options in (("tills", ("--seed", "1", "--harts", "2")),
+                              ("counter", ("--seed", "1", "--harts", "4")),
                               ("hand_over", ("--seed", "1", "--harts", "2"))):
             log = self.record(name, *options)
             exact = int(self.program("races", log, self.elf(name), "1000000").rsplit(" ", 1)[1])
@@ -45,7 +55,8 @@ class RaceTest(case.Case):
             for more in ((), ("--names", self.names(name))):
                 text = self.says("race", log, self.elf(name), "--more", *more)
                 self.assertEqual(sum(counts(text)), exact, name)
-                self.assertTrue(text.startswith("RACES: {:,} pairs in {} groups.".format(exact, len(counts(text)))), text[:80])
+                self.assertTrue(text.startswith("RACES: {:,} pairs in {} groups.".format(
+                                                    exact, len(counts(text)))), text[:80])
 
     def test_rows_are_the_programs(self):
         text = self.says("race", self.tills(), self.elf("tills"))
@@ -65,39 +76,51 @@ class RaceTest(case.Case):
         """As a plain reading of the groups' words and places has it."""
         def has(group, *lines):
             found = [group[access]["place"] for access in ("one", "other")]
-            told = [f"{place['file']}:{place['line']}" for place in found] + [place["function"] for place in found]
+            told = [f"{place['file']}:{place['line']}"
+                    for place in found] + [place["function"] for place in found]
             return all(line in told for line in lines)
 
         every, status = self.groups()
         self.assertEqual((status, every["ignored"]), (FOUND, 0))
-        for line, fits in (("shelf", lambda group: group["name"].startswith("shelf")),
-                           ("shelf[199]", lambda group: group["name"].startswith("shelf[199]")),
-                           ("0001159c  # the last place", lambda group: "0001159c" in group["words"]),
-                           ("tills.c:38", lambda group: has(group, "tills.c:38")),
-                           ("tills.c:3* and tills.c:38", lambda group: has(group, "tills.c:38") and all(
-                               30 <= group[access]["place"]["line"] < 40 for access in ("one", "other"))),
-                           ("sell", lambda group: has(group, "sell")), ("# sell", lambda group: False)):
-            left, _ = self.groups("--ignore", common.written(common.path("ignored"), line.encode() + b"\n"))
-            wanted = [word for group in every["groups"] if not fits(group) for word in group["words"]]
-            self.assertEqual([word for group in left["groups"] for word in group["words"]], wanted, line)
-            self.assertTrue(line[0] == "#" or len(wanted) < sum(len(group["words"]) for group in every["groups"]), line)
+        for line, fits in (
+                ("shelf", lambda group: group["name"].startswith("shelf")),
+                ("shelf[199]", lambda group: group["name"].startswith("shelf[199]")),
+                ("0001159c  # the last place", lambda group: "0001159c" in group["words"]),
+                ("tills.c:38", lambda group: has(group, "tills.c:38")),
+                ("tills.c:3* and tills.c:38", lambda group: has(group, "tills.c:38")
+                 and all(30 <= group[access]["place"]["line"] < 40 for access in ("one", "other"))),
+                ("sell", lambda group: has(group, "sell")), ("# sell", lambda group: False)):
+            left, _ = self.groups("--ignore",
+                                  common.written(common.path("ignored"), line.encode() + b"\n"))
+            wanted = [word for group in every["groups"] if not fits(group)
+                      for word in group["words"]]
+            self.assertEqual([word for group in left["groups"] for word in group["words"]],
+                             wanted, line)
+            self.assertTrue(line[0] == "#" or len(wanted)
+                            < sum(len(group["words"]) for group in every["groups"]), line)
         left, status = self.groups("--ignore", common.written(common.path("ignored"), b"*\n"))
         self.assertEqual((status, left["groups"], left["ignored"] > 5), (0, [], True))
-        told = common.companion("race", self.tills(), self.elf("tills"), "--ignore", common.path("ignored"))[1]
+        told = common.companion("race", self.tills(), self.elf("tills"),
+                                "--ignore", common.path("ignored"))[1]
         self.assertRegex(told, r"\nleft out: \d+ groups that --ignore names\n\Z")
 
     def test_fail_is_of_races_that_no_fences_order(self):
         fenced = common.written(common.path("fenced"), b"sell\ntills.c:3*\n")
         left, status = self.groups("--ignore", fenced)
-        self.assertEqual({group["kind"] for group in left["groups"]} - {"fenced", "ordered by fences"}, {""} if status else set())
+        self.assertEqual({group["kind"] for group in left["groups"]}
+                         - {"fenced", "ordered by fences"}, {""} if status else set())
         log = self.record("heap", "--seed", "1")
         self.assertEqual(common.companion("race", log, self.elf("heap"), "--fail")[0], 0)
 
     def test_a_bad_file_of_races_is_refused(self):
-        for text, words in ((b"a and b and c\n", ":1: a line of --ignore"), (b"ok\n" + b"x" * 300, ":2: a line"), (b"x\n" * 10001, "at most 10000 lines")):
+        for text, words in ((b"a and b and c\n", ":1: a line of --ignore"),
+                            (b"ok\n" + b"x" * 300, ":2: a line"),
+                            (b"x\n" * 10001, "at most 10000 lines")):
             name = common.written(common.path("ignored"), text)
-            self.assertIn(words, self.refuses(2, "race", self.tills(), self.elf("tills"), "--ignore", name))
-        self.assertIn("missing", self.refuses(4, "race", self.tills(), self.elf("tills"), "--ignore", common.path("nowhere")))
+            self.assertIn(words, self.refuses(2, "race", self.tills(), self.elf("tills"),
+                                              "--ignore", name))
+        self.assertIn("missing", self.refuses(4, "race", self.tills(), self.elf("tills"),
+                                              "--ignore", common.path("nowhere")))
 
     def test_without_names_places_are_addresses(self):
         text = self.says("race", self.tills(), self.elf("tills"))
@@ -109,7 +132,8 @@ class RaceTest(case.Case):
         text = self.says("race", log, self.elf("counter"), "--names", self.names("counter"))
         behind = text[text.index("\nORDERED BY FENCES"):]
         self.assertRegex(behind, r"plain \(000112c8\) +count counter.c:15  and  main counter.c:43")
-        self.assertNotRegex(behind, r"plain \(000112c8\) +count counter.c:15  and  count counter.c:15")
+        self.assertNotRegex(behind,
+                            r"plain \(000112c8\) +count counter.c:15  and  count counter.c:15")
 
     def test_words_of_one_object_are_one_group(self):
         text = self.says("race", *self.crash("lock_left_held"))
@@ -122,7 +146,8 @@ class RaceTest(case.Case):
             self.assertIn(common.crashes()[name].guilty, text[:text.find(" 3. ")], name)
 
     def test_it_says_whose_judgement_it_is(self):
-        self.assertIn("own judgement; zelkuma races lists each", self.says("race", self.tills(), self.elf("tills")))
+        self.assertIn("own judgement; zelkuma races lists each",
+                      self.says("race", self.tills(), self.elf("tills")))
 
     def test_one_hart_has_none(self):
         text = self.says("race", self.record("wild_store", "--seed", "1"), self.elf("wild_store"))
@@ -130,7 +155,8 @@ class RaceTest(case.Case):
 
     def test_refusals(self):
         log = self.tills()
-        self.assertIn("more than 100 pairs", self.refuses(20, "race", log, self.elf("tills"), "--max", "100"))
+        self.assertIn("more than 100 pairs",
+                      self.refuses(20, "race", log, self.elf("tills"), "--max", "100"))
         self.refuses(2, "race", log, self.elf("tills"), "--max", "0")
 
 
@@ -155,7 +181,8 @@ class FencesTest(case.Case):
         self.assertFalse(self.fenced([0x0320000f, STORE], 1))   # rw,r: no write waits
 
     def test_a_way_over_a_fence(self):
-        way = races.Way([10, 20, 30], [5, 40, 60])      # fenced stores, and the least count that loads one of them or a later one
+        # Fenced stores, and the least count that loads one of them or a later one
+        way = races.Way([10, 20, 30], [5, 40, 60])
         self.assertTrue(races.leads(way, 20, 40))
         self.assertTrue(races.leads(way, 15, 41))
         self.assertFalse(races.leads(way, 21, 59))

@@ -1,4 +1,5 @@
-"""What `shrink` finds, saves and tells: the same bytes each time, the lines of known races, and what it refuses."""
+"""What `shrink` finds, saves and tells: the same bytes each time, the lines of known races, and
+what it refuses."""
 import json
 import os
 import re
@@ -11,7 +12,8 @@ import case
 import common
 from common import content
 
-EIGHTH_ROUND = "0x15 1x11 0x13 2x11 0x13 1x12 0x13 1x12 0x13 1x12 0x13 1x12 0x13 2x12 0x14 1x20 0x15 2x17 0x13 2x3"
+EIGHTH_ROUND = ("0x15 1x11 0x13 2x11 0x13 1x12 0x13 1x12 0x13 1x12 0x13 1x12 0x13 2x12 0x14 1x20 "
+                "0x15 2x17 0x13 2x3")
 LOCKS = "--harts", "2", "--seed", "8", "--limit", "20000"
 MOST_SWITCHES = 12
 
@@ -37,7 +39,8 @@ def is_searching(process):
 class ShrinkTest(case.Case):
     def recording(self, name, *options, schedule=""):
         """LOG, ELF and BOOK of an example."""
-        log, book = common.path(f"{name}.log"), common.path(f"{name}.book")
+        log = common.path(f"{name}.log")
+        book = common.path(f"{name}.book")
         if not os.path.exists(log):
             common.record(name, self.elf(name), *options, schedule=schedule)
         return log, self.elf(name), book
@@ -47,7 +50,8 @@ class ShrinkTest(case.Case):
 
     def shrunk(self, recording, to, *options):
         """What is said, and the new LOG and BOOK, which `audit` has to agree with."""
-        log, book = common.path(to + ".log"), common.path(to + ".book")
+        log = common.path(to + ".log")
+        book = common.path(to + ".book")
         said = self.says("shrink", *recording, log, book, *options)
         self.assertEqual(common.output("audit", log, recording[1], book), b"agree\n")
         self.assertEqual(common.output("check", log)[:3], b"ok ")
@@ -66,24 +70,31 @@ class ShrinkTest(case.Case):
             finally:
                 os.sched_setaffinity(0, processors)
             self.assertEqual(one[0], other[0])
-            self.assertEqual([content(name) for name in one[1:]], [content(name) for name in other[1:]])
-            self.assertEqual(self.says("bucket", recording[0], recording[1]), self.says("bucket", one[1], recording[1]))
+            self.assertEqual([content(name) for name in one[1:]],
+                             [content(name) for name in other[1:]])
+            self.assertEqual(self.says("bucket", recording[0], recording[1]),
+                             self.says("bucket", one[1], recording[1]))
             self.assertLessEqual(len(pieces_of(content(one[2]))) - 1, MOST_SWITCHES)
 
     def test_the_order_is_that_of_the_turns(self):
         said, _, book = self.shrunk(self.filters(), "order")
         order = re.search(r"^order: (.*)$", said, re.M)[1]
-        self.assertEqual(order, " ".join(f"{hart}x{turns}" for hart, turns in pieces_of(content(book))))
+        self.assertEqual(order,
+                         " ".join(f"{hart}x{turns}" for hart, turns in pieces_of(content(book))))
 
     def test_the_lines_of_filters(self):
-        """The comment in filters.c tells the bug: `hold` loads the pointer first and counts itself after that."""
+        """The comment in filters.c tells the bug: `hold` loads the pointer first and counts itself
+        after that."""
         self.needs_addr2line()
         said, _, _ = self.shrunk(self.filters(), "lines")
         source = content(os.path.join(common.EXAMPLES, "filters.c")).decode().split("\n")
-        load = next(at for at, line in enumerate(source, 1) if "__atomic_load_n(&current" in line and "filter = " in line)
+        load = next(at for at, line in enumerate(source, 1)
+                    if "__atomic_load_n(&current" in line and "filter = " in line)
         late = next(at for at, line in enumerate(source, 1) if "the bug: too late" in line)
-        self.assertIn(f"it has to come between hold filters.c:{load} and hold filters.c:{late}\n", said)
-        self.assertRegex(said, rf"stores to current in install filters.c:\d+, which hart \d loaded in hold filters.c:{load}\n")
+        self.assertIn(f"it has to come between hold filters.c:{load} and hold filters.c:{late}\n",
+                      said)
+        self.assertRegex(said, r"stores to current in install filters.c:\d+, "
+                         rf"which hart \d loaded in hold filters.c:{load}\n")
         self.assertTrue(said.endswith("\nend: " + self.says("bucket", *self.filters()[:2])))
 
     def test_each_switch_is_needed(self):
@@ -91,10 +102,13 @@ class ShrinkTest(case.Case):
         _, _, book = self.shrunk(self.filters(), "needed")
         pieces = pieces_of(content(book))
         for left_out in range(len(pieces)):
-            turns = common.written(common.path("turns"), b"".join(bytes([hart]) * n for at, (hart, n) in enumerate(pieces) if at != left_out))
-            done = subprocess.run([common.PROGRAM, "record", "--format", "2", "--harts", "4", self.elf("filters"),
-                                   common.path("left.log"), common.path("left.book")], stdout=subprocess.DEVNULL,
-                                  stderr=subprocess.DEVNULL, env=common.scheduled("book:" + turns), check=False)
+            turns = common.written(common.path("turns"),
+                                   b"".join(bytes([hart]) * n for at, (hart, n) in enumerate(pieces)
+                                            if at != left_out))
+            done = subprocess.run(
+                [common.PROGRAM, "record", "--format", "2", "--harts", "4", self.elf("filters"),
+                 common.path("left.log"), common.path("left.book")], stdout=subprocess.DEVNULL,
+                stderr=subprocess.DEVNULL, env=common.scheduled("book:" + turns), check=False)
             found = pieces_of(content(common.path("left.book")))
             self.assertTrue(done.returncode != 10 or len(found) >= len(pieces), (left_out, found))
 
@@ -107,28 +121,34 @@ class ShrinkTest(case.Case):
         order = re.search(r"^order: (.*) \.\.$", said, re.M)[1]
         turns = common.written(common.path("hang.turns"), common.turns_of(order))
         # The rest is drawn by seed 0, which lets no hart wait for long.
-        done = subprocess.run([common.PROGRAM, "record", "--format", "2", "--harts", "2", "--limit", "100000", recording[1],
-                               common.path("again.log"), common.path("again.book")], stdout=subprocess.DEVNULL,
-                              stderr=subprocess.DEVNULL, env=common.scheduled("book:" + turns), check=False)
+        done = subprocess.run([common.PROGRAM, "record", "--format", "2", "--harts", "2", "--limit",
+                               "100000", recording[1],
+                               common.path("again.log"), common.path("again.book")],
+                              stdout=subprocess.DEVNULL, stderr=subprocess.DEVNULL,
+                              env=common.scheduled("book:" + turns), check=False)
         self.assertEqual(done.returncode, 11)
         self.assertLessEqual(len(pieces_of(content(book))) - 1, MOST_SWITCHES)
 
     def test_a_hang_of_three_harts_in_an_earlier_round(self):
-        """A worker of hang_signal.c falls asleep after its last look into its box, here in the eighth round. Each round costs
-        two switches, so the same has to be found in an earlier one."""
+        """A worker of hang_signal.c falls asleep after its last look into its box, here in the
+        eighth round. Each round costs two switches, so the same has to be found in an earlier
+        one."""
         self.needs_addr2line()
         crash = common.crashes()["hang_signal"]
         asked = common.written(common.path("signal.asked"), common.turns_of(EIGHTH_ROUND))
-        log = common.record("signal", crash.elf, "--harts", crash.harts, "--limit", "2500", schedule="book:" + asked)
+        log = common.record("signal", crash.elf, "--harts", crash.harts, "--limit",
+                            "2500", schedule="book:" + asked)
         said, _, new_book = self.shrunk((log, crash.elf, common.path("signal.book")), "round")
         self.assertLessEqual(len(pieces_of(content(new_book))) - 1, MOST_SWITCHES)
         self.assertIn("\nfrom then on harts 0, 1, 2 wait\n", said)
-        self.assertRegex(said, rf"\n +it has to come between release .*\) and nap {re.escape(crash.guilty)} \(in work ")
+        self.assertRegex(said, r"\n +it has to come between release .*\) and nap "
+                         rf"{re.escape(crash.guilty)} \(in work ")
 
     def test_a_byte_of_the_output(self):
         """counter.c loses counts of `plain` if a hart stops between its load and its store."""
         recording = self.recording("counter", "--harts", "2", "--seed", "2", "--limit", "100000")
-        before = json.loads(self.says("output", "--json", recording[0], recording[1]))["writes"][0]["bytes"]
+        before = json.loads(self.says("output", "--json", recording[0],
+                                      recording[1]))["writes"][0]["bytes"]
         place = bytes(before).index(b"plain ") + len("plain ")
         said, log, book = self.shrunk(recording, "byte", "--output", f"0:{place}")
         after = json.loads(self.says("output", "--json", log, recording[1]))["writes"][0]["bytes"]
@@ -138,16 +158,20 @@ class ShrinkTest(case.Case):
     def test_json(self):
         said, _, book = self.shrunk(self.filters(), "json", "--json")
         answer = json.loads(said)
-        self.assertEqual((answer["answer"], answer["version"], answer["is_done"]), ("shrink", 1, True))
+        self.assertEqual((answer["answer"], answer["version"], answer["is_done"]),
+                         ("shrink", 1, True))
         self.assertEqual([tuple(piece) for piece in answer["pieces"]], pieces_of(content(book)))
         self.assertEqual(len(answer["switches"]), len(answer["pieces"]) - 1)
 
     def test_what_is_there_when_it_is_ended_is_saved(self):
-        recording = self.recording("buffers", "--harts", "4", "--limit", "1000000", schedule="sleeper:20")
+        recording = self.recording("buffers", "--harts", "4", "--limit",
+                                   "1000000", schedule="sleeper:20")
         for sent, status in ((signal.SIGTERM, 143), (signal.SIGINT, 130), (signal.SIGALRM, 0)):
-            log, book = common.path(f"{sent.name}.log"), common.path(f"{sent.name}.book")
-            process = subprocess.Popen([sys.executable, common.COMPANION, "shrink", *recording, log, book],
-                                       stdout=subprocess.PIPE, stderr=subprocess.PIPE, universal_newlines=True)
+            log = common.path(f"{sent.name}.log")
+            book = common.path(f"{sent.name}.book")
+            process = subprocess.Popen([sys.executable, common.COMPANION, "shrink", *recording, log,
+                                        book], stdout=subprocess.PIPE,
+                                       stderr=subprocess.PIPE, universal_newlines=True)
             while process.poll() is None and not is_searching(process.pid):
                 time.sleep(0.01)
             process.send_signal(sent)
@@ -155,10 +179,13 @@ class ShrinkTest(case.Case):
             self.assertEqual((process.returncode, err.count("\n")), (status, 1), err)
             self.assertIn("the search was ended before it was done", err)
             self.assertEqual(common.output("audit", log, recording[1], book), b"agree\n")
-            self.assertEqual(self.says("bucket", log, recording[1]), self.says("bucket", *recording[:2]))
+            self.assertEqual(self.says("bucket", log, recording[1]),
+                             self.says("bucket", *recording[:2]))
 
     def test_what_seeds_find(self):
-        log, book, elf = common.path("seeds.log"), common.path("seeds.book"), self.elf("hand_over")
+        log = common.path("seeds.log")
+        book = common.path("seeds.book")
+        elf = self.elf("hand_over")
         words = "--only", "seeds", "1", "40", "--", "--format", "2", "--harts", "2", elf, log, book
         said = self.says("seeds", "--shrink", *words)
         self.assertTrue(said.startswith("seed 3: status 10\n"), said)
@@ -170,23 +197,35 @@ class ShrinkTest(case.Case):
         """It is said before a run is made."""
         names = self.elf("hand_over"), common.path("none.log"), common.path("none.book")
         for said, own, words in (
-                ("--shrink needs one run with a fault, a hang or an exit code", ["--until", "0"], ["--harts", "2"]),
-                ("--shrink needs BOOK, and with --lean there is none", [], ["--harts", "2", "--lean"]),
+                ("--shrink needs one run with a fault, a hang or an exit code",
+                 ["--until", "0"], ["--harts", "2"]),
+                ("--shrink needs BOOK, and with --lean there is none",
+                 [], ["--harts", "2", "--lean"]),
                 ("one hart has one order, so --shrink has nothing to shrink", [], []),
-                ("one hart has one order, so --shrink has nothing to shrink", [], ["--harts", "0x1"])):
-            self.assertIn(said, self.refuses(2, "seeds", "--shrink", *own, "1", "40", "--", *words, *names))
-        self.assertIn("--compare needs one run", self.refuses(2, "seeds", "--compare", "--until", "0", "1", "40", "--", "--harts", "2", *names))
+                ("one hart has one order, so --shrink has nothing to shrink",
+                 [], ["--harts", "0x1"])):
+            self.assertIn(said, self.refuses(2, "seeds", "--shrink", *own, "1", "40", "--",
+                                             *words, *names))
+        self.assertIn("--compare needs one run",
+                      self.refuses(2, "seeds", "--compare", "--until", "0", "1", "40",
+                                   "--", "--harts", "2", *names))
         self.assertFalse(any(map(os.path.exists, names[1:])))
 
     def test_seeds_compares_the_short_run_with_a_good_one_that_is_near(self):
-        """The good run is the short one with one switch moved, and both are told apart by what `compare` tells."""
-        elf, log, book = self.elf("filters"), common.path("near.log"), common.path("near.book")
+        """The good run is the short one with one switch moved, and both are told apart by what
+        `compare` tells."""
+        elf = self.elf("filters")
+        log = common.path("near.log")
+        book = common.path("near.book")
         words = "--only", "seeds", "10", "10", "--", "--format", "2", "--harts", "4", elf, log, book
         said = self.says("seeds", "--compare", *words)
-        told = re.search(r"\nnearest run that ends well: switch (\d+) comes (\d+) turns? (earlier|later)\n", said)
+        told = re.search(r"\nnearest run that ends well: "
+                         r"switch (\d+) comes (\d+) turns? (earlier|later)\n", said)
         self.assertEqual(said[told.end():], self.says("compare", log + ".good", log, elf))
-        self.assertIn("stored by 3:93 in hold ", re.sub(r"in 0001\w+", "in hold ", said[told.end():]))
-        self.assertEqual({line.split(" ")[1] for line in common.output("list", log + ".good").decode().splitlines()} & {"fault"}, set())
+        self.assertIn("stored by 3:93 in hold ",
+                      re.sub(r"in 0001\w+", "in hold ", said[told.end():]))
+        self.assertEqual({line.split(" ")[1] for line in common.output(
+                              "list", log + ".good").decode().splitlines()} & {"fault"}, set())
         with open(book, "rb") as bad, open(book + ".good", "rb") as good:
             turns = bad.read(), good.read()
         same = next(at for at, (one, other) in enumerate(zip(*turns)) if one != other)
@@ -194,13 +233,16 @@ class ShrinkTest(case.Case):
         moved = switches[int(told[1]) - 1]
         self.assertEqual(same, moved - int(told[2]) if told[3] == "earlier" else moved)
         answer = json.loads(self.says("seeds", "--compare", "--json", *words))["compared"]
-        self.assertEqual((answer["switch"], abs(answer["turns"]), answer["harts"]), (int(told[1]), int(told[2]), 4))
+        self.assertEqual((answer["switch"], abs(answer["turns"]), answer["harts"]),
+                         (int(told[1]), int(told[2]), 4))
         self.assertEqual([each["hart"] for each in answer["parted"]], [0, 3])
 
     def test_seeds_finds_no_good_run_near_one_that_always_crashes(self):
-        log, book = common.path("always.log"), common.path("always.book")
-        status, said, err = common.companion("seeds", "--only", "seeds", "--compare", "1", "1", "--", "--harts", "2",
-                                             self.elf("wild_store"), log, book)
+        log = common.path("always.log")
+        book = common.path("always.book")
+        status, said, err = common.companion("seeds", "--only", "seeds", "--compare", "1", "1",
+                                             "--", "--harts", "2", self.elf("wild_store"),
+                                             log, book)
         self.assertEqual(status, 0, err)
         self.assertIn("no run that ends well is found near", err)
         self.assertNotIn("COMPARE", said)
@@ -212,7 +254,8 @@ class ShrinkTest(case.Case):
         heap = self.recording("heap", "--seed", "1")
         new = common.path("new.log"), common.path("new.book")
         for status, words, said in (
-                (17, [log, elf, counter[2], *new], "BOOK is no list of turns of a whole run of ELF"),
+                (17, [log, elf, counter[2], *new],
+                 "BOOK is no list of turns of a whole run of ELF"),
                 (8, [log, counter[1], book, *new], "program differs"),
                 (2, [*counter, *new], "the run of LOG ended well"),
                 (14, [*counter, *new, "--output", "0:99"], "the log holds no byte 99 of a write 0"),

@@ -1,4 +1,5 @@
-"""The parts of the companions: each imports what its head says that it may use, and no two use each other."""
+"""The parts of the companions: each imports what its head says that it may use, and no two use each
+other."""
 from __future__ import annotations
 
 import ast
@@ -20,12 +21,14 @@ def parsed(*names: str) -> ast.Module:
 
 
 def parts() -> list[str]:
-    return sorted(name for name in os.listdir(COMPANION) if os.path.exists(os.path.join(COMPANION, name, "__init__.py")))
+    return sorted(name for name in os.listdir(COMPANION)
+                  if os.path.exists(os.path.join(COMPANION, name, "__init__.py")))
 
 
 def may_use(part: str) -> set[str]:
     """What the head of a part says."""
-    found = re.search(r"^May use: ([a-z, ]+)[,.]", ast.get_docstring(parsed(part, "__init__.py")) or "", re.MULTILINE)
+    found = re.search(r"^May use: ([a-z, ]+)[,.]",
+                      ast.get_docstring(parsed(part, "__init__.py")) or "", re.MULTILINE)
     return set(found.group(1).replace(" ", "").split(",")) if found else {"a head that says it"}
 
 
@@ -71,14 +74,18 @@ class Parts(unittest.TestCase):
         for part in parts():
             for name in sorted(os.listdir(os.path.join(COMPANION, part))):
                 for node in ast.walk(parsed(part, name)) if name.endswith(".py") else ():
-                    taken = [each.name for each in node.names] if isinstance(node, ast.ImportFrom) and node.module != "__future__" else []
-                    if isinstance(node, ast.Attribute) and not (isinstance(node.value, ast.Name) and node.value.id == "self"):
+                    taken = ([each.name for each in node.names] if isinstance(node, ast.ImportFrom)
+                             and node.module != "__future__" else [])
+                    if (isinstance(node, ast.Attribute)
+                            and not (isinstance(node.value, ast.Name) and node.value.id == "self")):
                         taken = [node.attr]
-                    theirs = [each for each in taken if re.match("_[a-z]", each) and each not in SYSTEMS]
+                    theirs = [each
+                              for each in taken if re.match("_[a-z]", each) and each not in SYSTEMS]
                     self.assertFalse(theirs, f"{part}/{name}:{getattr(node, 'lineno', 0)}")
 
     def test_rows_are_cut_in_one_place(self) -> None:
-        """A row's words stand between blanks, what it did behind bars: only recording/ parts a text by them."""
+        """A row's words stand between blanks, what it did behind bars: only recording/ parts a text
+        by them."""
         for place, node in calls_outside("recording"):
             if isinstance(node.func, ast.Attribute) and node.func.attr in PARTING:
                 by = [each.value for each in node.args[:1] if isinstance(each, ast.Constant)]
@@ -91,4 +98,5 @@ class Parts(unittest.TestCase):
                 self.assertNotIn(node.func.id, OPENING, place)
 
     def test_none_stands_outside(self) -> None:
-        self.assertEqual(sorted(name for name in os.listdir(COMPANION) if name.endswith(".py")), ["__init__.py", "__main__.py", "library.py"])
+        self.assertEqual(sorted(name for name in os.listdir(COMPANION) if name.endswith(".py")),
+                         ["__init__.py", "__main__.py", "library.py"])

@@ -1,4 +1,5 @@
-"""zelkuma compare: the first row that isn't the same, beside a plain reading of the rows; waits are no difference."""
+"""zelkuma compare: the first row that isn't the same, beside a plain reading of the rows; waits are
+no difference."""
 import json
 import re
 import unittest
@@ -22,7 +23,8 @@ def pcs(log, elf):
 
 class CompareTest(case.Case):
     def test_a_log_is_as_itself(self):
-        log, elf = self.record("filters", "--seed", "10", "--harts", "4"), self.elf("filters")
+        log = self.record("filters", "--seed", "10", "--harts", "4")
+        elf = self.elf("filters")
         said = self.says("compare", log, log, elf)
         self.assertTrue(said.startswith("COMPARE: 0 harts of 4 went another way\nENDS\n"), said)
 
@@ -30,13 +32,16 @@ class CompareTest(case.Case):
         logs = []
         for at, text in enumerate((b"some words\nof a text\n", b"some words\nof  a text\n")):
             given = common.written(common.path(f"compared{at}.input"), text)
-            logs.append(common.record(f"compared{at}", self.elf("word_count"), "--seed", "1", "--input", given))
+            logs.append(common.record(f"compared{at}", self.elf("word_count"), "--seed",
+                                      "1", "--input", given))
         good, bad = (pcs(log, self.elf("word_count"))[0] for log in logs)
         first = next(at for at, (one, other) in enumerate(zip(good, bad)) if one[0] != other[0])
         said = json.loads(self.says("compare", *logs, self.elf("word_count"), "--json"))
         parted = said["parted"][0]
-        self.assertEqual([point["count"] for point in parted["same"]], [good[first - 1][1], bad[first - 1][1]])
-        self.assertEqual([point["place"]["address"] for point in parted["other"]], [good[first][0], bad[first][0]])
+        self.assertEqual([point["count"] for point in parted["same"]],
+                         [good[first - 1][1], bad[first - 1][1]])
+        self.assertEqual([point["place"]["address"] for point in parted["other"]],
+                         [good[first][0], bad[first][0]])
         loads = [point["row"].rpartition("=")[2] for point in parted["loads"]]
         self.assertNotEqual(*loads)             # the words of the text that aren't the same
         for log, giver, point in zip(logs, parted["givers"], parted["loads"]):
@@ -44,25 +49,31 @@ class CompareTest(case.Case):
             calls = [row for row in rows[:rows.index(point["row"])] if " ecall | " in row]
             self.assertEqual(giver, calls[-1])  # the `read` call that brought the text
         said = self.says("compare", *logs, self.elf("word_count"))
-        self.assertEqual(len(re.findall(r"\n +stored by 0:16 in .*: a read call, a0=0000001[56]\n", said)), 2)
+        self.assertEqual(
+            len(re.findall(r"\n +stored by 0:16 in .*: a read call, a0=0000001[56]\n", said)), 2)
 
     def test_who_had_stored_what_was_loaded(self):
         """Of a fault, and of two locks that are taken in two orders."""
         for name, seeds, words, harts in (("filters", "9 10", ("--harts", "4"), [2, 3, 0, 1]),
-                                          ("two_locks", "1 8", ("--harts", "2", "--limit", "20000"), [0, 1])):
-            elf, logs = self.elf(name), [self.record(name, "--seed", seed, *words) for seed in seeds.split()]
+                                          ("two_locks", "1 8",
+                                           ("--harts", "2", "--limit", "20000"), [0, 1])):
+            elf = self.elf(name)
+            logs = [self.record(name, "--seed", seed, *words) for seed in seeds.split()]
             said = json.loads(self.says("compare", *logs, elf, "--json"))
             self.assertEqual([each["hart"] for each in said["parted"]], harts)
             for each in said["parted"]:
                 for log, loaded, giver in zip(logs, each["loads"], each["givers"]):
                     word = re.search(r"load 0*(\w+)=", loaded["row"])[1]
-                    before = common.output("joint", log, elf).decode().partition(loaded["row"])[0].split("\n")
-                    self.assertEqual(giver, ([""] + [line for line in before if f"store 000{word}=" in line])[-1])
+                    before = common.output("joint", log,
+                                           elf).decode().partition(loaded["row"])[0].split("\n")
+                    self.assertEqual(giver, ([""] + [line for line in before
+                                                     if f"store 000{word}=" in line])[-1])
 
     def test_refusals(self):
-        log, elf = self.record("filters", "--seed", "10", "--harts", "4"), self.elf("filters")
-        short = self.record("filters", "--seed", "10", "--harts", "4", "--log-size", "16384", "--interval", "200", "--sets", "1",
-                            "--ways", "1", "--line", "1")
+        log = self.record("filters", "--seed", "10", "--harts", "4")
+        elf = self.elf("filters")
+        short = self.record("filters", "--seed", "10", "--harts", "4", "--log-size", "16384",
+                            "--interval", "200", "--sets", "1", "--ways", "1", "--line", "1")
         if "dropped 0" not in common.output("check", short).decode():
             self.assertIn("has lost its beginning", self.refuses_here(14, compare, log, short, elf))
         self.refuses_here(2, compare, log, elf)
@@ -71,10 +82,13 @@ class CompareTest(case.Case):
 
 
 S0 = 8
-LOAD, LEAVE, AGAIN, STORE_IT, COUNT, SWAP, SWAP_2, LEAVE_2, ADD, OUT, OTHER = range(0x10000, 0x10000 + 44, 4)
-WORDS = {LOAD: load(T0, S0), LEAVE: branch_unless_equal(T0, 0, 8), AGAIN: branch_unless_equal(T0, T1, -8), STORE_IT: store(T0, S0),
-         COUNT: addi(T2, T2, 1), SWAP: atomic(1, T0, S0, T1),
-         SWAP_2: atomic(1, T0, S0, T1), LEAVE_2: branch_unless_equal(T0, 0, 8), ADD: atomic(0, T0, S0, T1), OUT: addi(A0, 0, 1), OTHER: addi(A0, 0, 2)}
+LOAD, LEAVE, AGAIN, STORE_IT, COUNT, SWAP, SWAP_2, LEAVE_2, ADD, OUT, OTHER = range(0x10000,
+                                                                                    0x10000 + 44, 4)
+WORDS = {LOAD: load(T0, S0), LEAVE: branch_unless_equal(T0, 0, 8),
+         AGAIN: branch_unless_equal(T0, T1, -8), STORE_IT: store(T0, S0), COUNT: addi(T2, T2, 1),
+         SWAP: atomic(1, T0, S0, T1), SWAP_2: atomic(1, T0, S0, T1),
+         LEAVE_2: branch_unless_equal(T0, 0, 8), ADD: atomic(0, T0, S0, T1),
+         OUT: addi(A0, 0, 1), OTHER: addi(A0, 0, 2)}
 
 
 class Code:
@@ -85,11 +99,13 @@ class Code:
 
 
 def ways(good, bad, size, stopped=False):
-    """How a hart parts whose rows are at these addresses and come so many at a time: whether, at which counts, and whether it waits."""
+    """How a hart parts whose rows are at these addresses and come so many at a time: whether, at
+    which counts, and whether it waits."""
     lane = Lane(0, Loops(Code()))           # type: ignore[arg-type]
     for begin in range(0, max(len(good), len(bad)), size):
         for way, pcs in ((lane.good, good), (lane.bad, bad)):
-            way.add(b"".join(b"\n0 %d %08x x" % (begin + at, pc) for at, pc in enumerate(pcs[begin:begin + size])))
+            way.add(b"".join(b"\n0 %d %08x x" % (begin + at, pc)
+                             for at, pc in enumerate(pcs[begin:begin + size])))
             lane.advance()
     lane.good.ended = lane.bad.ended = True
     lane.bad.stopped = stopped
@@ -103,34 +119,47 @@ class WaysTest(unittest.TestCase):
         found = {ways(good, bad, size, **more) for size in (1, 2, 3, 7, 1000)}
         self.assertEqual(len(found), 1, found)
         if not more:
-            self.assertEqual({ways(bad, good, size) for size in (1, 3, 1000)}, {(one[0], one[2], one[1], False) for one in found})
+            self.assertEqual({ways(bad, good, size) for size in (1, 3, 1000)},
+                             {(one[0], one[2], one[1], False) for one in found})
         return found.pop()
 
     def test_a_hart_that_waited_longer_went_no_other_way(self):
-        spin, lock = [LOAD, AGAIN], [SWAP, LEAVE]
-        for begin, wait, end in (([OTHER, *spin], spin, [OUT]), ([SWAP, LEAVE], [*spin, *spin, *lock], [OUT]), (lock, lock, [OUT, STORE_IT])):
+        spin = [LOAD, AGAIN]
+        lock = [SWAP, LEAVE]
+        for begin, wait, end in (([OTHER, *spin], spin, [OUT]),
+                                 ([SWAP, LEAVE], [*spin, *spin, *lock], [OUT]),
+                                 (lock, lock, [OUT, STORE_IT])):
             for rounds in (1, 2, 40):
                 for other in (0, 1, 3):
-                    good, bad = begin + wait * other + end, begin + wait * rounds + end
+                    good = begin + wait * other + end
+                    bad = begin + wait * rounds + end
                     self.assertEqual(self.both(good, bad), (False, len(good), len(bad), False))
 
     def test_a_copy_of_the_lock_behind_it(self):
-        """A compiler puts the first try before the loop. What is loaded for the branch is loaded again; else it is a difference."""
-        self.assertEqual(self.both([SWAP, LEAVE, OUT], [SWAP, LEAVE, *[LOAD, AGAIN] * 9, SWAP_2, LEAVE_2, OUT]), (False, 3, 23, False))
-        self.assertEqual(self.both([SWAP, LEAVE, OUT], [SWAP, LEAVE, LOAD, AGAIN, OUT]), (True, 2, 2, False))
+        """A compiler puts the first try before the loop. What is loaded for the branch is loaded
+        again; else it is a difference."""
+        self.assertEqual(self.both([SWAP, LEAVE, OUT], [SWAP, LEAVE, *[LOAD, AGAIN] * 9, SWAP_2,
+                                                        LEAVE_2, OUT]), (False, 3, 23, False))
+        self.assertEqual(self.both([SWAP, LEAVE, OUT], [SWAP, LEAVE, LOAD, AGAIN, OUT]),
+                         (True, 2, 2, False))
 
     def test_other_loops_are_a_difference(self):
         for loop in ([LOAD, STORE_IT, AGAIN], [LOAD, COUNT, AGAIN], [OUT, AGAIN], [ADD, AGAIN]):
-            self.assertEqual(self.both(loop + [OTHER], loop * 3 + [OTHER]), (True, len(loop), len(loop), False))
+            self.assertEqual(self.both(loop + [OTHER], loop * 3 + [OTHER]),
+                             (True, len(loop), len(loop), False))
 
     def test_a_difference_behind_a_wait(self):
-        begin, wait = [COUNT, LOAD, AGAIN], [LOAD, AGAIN]
-        self.assertEqual(self.both(begin + [OUT, LEAVE, OUT], begin + wait * 5 + [OUT, LEAVE, OTHER]), (True, 5, 15, False))
+        begin = [COUNT, LOAD, AGAIN]
+        wait = [LOAD, AGAIN]
+        self.assertEqual(self.both(begin + [OUT, LEAVE, OUT],
+                                   begin + wait * 5 + [OUT, LEAVE, OTHER]), (True, 5, 15, False))
 
     def test_a_wait_up_to_the_limit(self):
-        begin, wait = [COUNT, LOAD, AGAIN], [LOAD, AGAIN]
+        begin = [COUNT, LOAD, AGAIN]
+        wait = [LOAD, AGAIN]
         for loads in 0, 1:
-            self.assertEqual(self.both(begin + [OUT], begin + wait * 50 + [LOAD] * loads, stopped=True), (True, 3, 103, True))
+            self.assertEqual(self.both(begin + [OUT], begin + wait * 50 + [LOAD] * loads,
+                                       stopped=True), (True, 3, 103, True))
 
     def test_one_that_ends_sooner(self):
         self.assertEqual(self.both([OUT, OTHER], [OUT]), (True, 1, 1, False))

@@ -21,7 +21,8 @@ def rows_at(log, elf):
 class ExportTest(case.Case):
     def exported(self, option, name, *words):
         self.needs_addr2line()
-        log, elf = self.record(name, *words), self.elf(name)
+        log = self.record(name, *words)
+        elf = self.elf(name)
         file = common.path(name + option)
         self.says("export", log, elf, option, file)
         return log, elf, file
@@ -31,8 +32,8 @@ class ExportTest(case.Case):
             self.skipTest("callgrind_annotate of valgrind isn't installed")
         log, elf, file = self.exported("--callgrind", "heap", "--seed", "1")
         rows = rows_at(log, elf)
-        done = subprocess.run(["callgrind_annotate", "--inclusive=no", file], stdout=subprocess.PIPE, stderr=subprocess.STDOUT,
-                              check=True)
+        done = subprocess.run(["callgrind_annotate", "--inclusive=no", file],
+                              stdout=subprocess.PIPE, stderr=subprocess.STDOUT, check=True)
         said = done.stdout.decode()
         self.assertIn(f"\n{sum(rows.values()):,} (100.0%)  PROGRAM TOTALS", said)
         symbol = next(item for item in Elf(elf).symbols if item.name == "put_text")
@@ -43,7 +44,8 @@ class ExportTest(case.Case):
 
     def test_inclusive_costs_are_those_of_the_calls(self):
         log, elf, file = self.exported("--callgrind", "heap", "--seed", "1")
-        taken = sum(int(cost) for cost in re.findall(r"\ncfn=put_text\ncalls=\d+ \d+\n\d+ (\d+)\n", common.text_of(file)))
+        taken = sum(int(cost) for cost in re.findall(r"\ncfn=put_text\ncalls=\d+ \d+\n\d+ (\d+)\n",
+                                                     common.text_of(file)))
         said = json.loads(self.says("calls", log, elf, "put_text", "--last", "1000", "--json"))
         self.assertEqual(taken, sum(each["rows"] for each in said["entries"]))
 
@@ -53,29 +55,37 @@ class ExportTest(case.Case):
         rows = rows_at(log, elf)
         main = next(item for item in Elf(elf).symbols if item.name == "main")
         self.assertIn(f"\nFNDA:{rows[main.address]},main\n", text)
-        counts = dict(re.findall(r"^DA:(\d+),(\d+)$", text.partition("/heap.c\n")[2].partition("end_of_record")[0], re.M))
-        self.assertEqual(counts["75"], "215")                   # keep's line 75 puts a text each time
+        counts = dict(re.findall(r"^DA:(\d+),(\d+)$",
+                                 text.partition("/heap.c\n")[2].partition("end_of_record")[0],
+                                 re.M))
+        # Keep's line 75 puts a text each time
+        self.assertEqual(counts["75"], "215")
         self.assertIn("\nDA:", text)
         if not shutil.which("genhtml"):
             self.skipTest("genhtml of lcov isn't installed")
-        said = subprocess.run(["genhtml", "-o", common.path("html"), file], cwd=common.TOP, stdout=subprocess.PIPE,
-                              stderr=subprocess.STDOUT, check=False)
+        said = subprocess.run(["genhtml", "-o", common.path("html"), file], cwd=common.TOP,
+                              stdout=subprocess.PIPE, stderr=subprocess.STDOUT, check=False)
         self.assertEqual(said.returncode, 0, said.stdout)
-        done, lines = re.search(r"lines\.+: [\d.]+% \((\d+) of (\d+) lines\)", said.stdout.decode()).groups()
-        self.assertEqual((int(done), int(lines)), (sum(map(int, re.findall(r"^LH:(\d+)$", text, re.M))),
-                                                   sum(map(int, re.findall(r"^LF:(\d+)$", text, re.M)))))
+        done, lines = re.search(r"lines\.+: [\d.]+% \((\d+) of (\d+) lines\)",
+                                said.stdout.decode()).groups()
+        self.assertEqual((int(done), int(lines)),
+                         (sum(map(int, re.findall(r"^LH:(\d+)$", text, re.M))),
+                          sum(map(int, re.findall(r"^LF:(\d+)$", text, re.M)))))
 
     def test_trace_events(self):
         """The form is that of the Trace Event Format: what each kind of event has to have."""
         log, elf, file = self.exported("--perfetto", "filters", "--seed", "10", "--harts", "4")
         events = json.loads(common.text_of(file))["traceEvents"]
-        needs = {"X": {"ts", "dur"}, "M": {"args"}, "i": {"ts", "s"}, "s": {"ts", "id", "cat"}, "f": {"ts", "id", "cat"}}
+        needs = {"X": {"ts", "dur"}, "M": {"args"}, "i": {"ts", "s"}, "s": {"ts", "id", "cat"},
+                 "f": {"ts", "id", "cat"}}
         for event in events:
             self.assertLessEqual({"name", "ph", "pid", "tid"} | needs[event["ph"]], set(event))
-        self.assertEqual({event["args"]["name"] for event in events if event["ph"] == "M" and event["pid"] == 1 and "thread" in event["name"]},
+        self.assertEqual({event["args"]["name"] for event in events if event["ph"] == "M"
+                          and event["pid"] == 1 and "thread" in event["name"]},
                          {f"hart {hart}" for hart in range(4)})
         faults = [event for event in events if event["ph"] == "i" and event["args"]["fault"]]
-        self.assertEqual([(event["name"], event["tid"], event["args"]["count"]) for event in faults], [("LoadOutside", 2, 444)])
+        self.assertEqual([(event["name"], event["tid"], event["args"]["count"])
+                          for event in faults], [("LoadOutside", 2, 444)])
         harts = [words[0] for words in common.rows(log, elf)]
         turns = sum(one != other for one, other in zip(harts, harts[1:])) + 1
         self.assertEqual(sum(event["pid"] == 2 and event["ph"] == "X" for event in events), turns)
@@ -83,13 +93,17 @@ class ExportTest(case.Case):
         self.assertTrue(starts)
         for event in events:
             if event["ph"] == "f":
-                self.assertLess(starts[event["id"]], event["ts"])       # what comes after is told after
+                # What comes after is told after
+                self.assertLess(starts[event["id"]], event["ts"])
 
     def test_waits(self):
-        """Two harts wait for two locks up to their limit; those that got theirs wait a moment at most."""
+        """Two harts wait for two locks up to their limit; those that got theirs wait a moment at
+        most."""
         for seed, many in (("8", 2), ("1", 0)):
-            log, elf, file = self.exported("--perfetto", "two_locks", "--seed", seed, "--harts", "2", "--limit", "20000")
-            waits = [event for event in json.loads(common.text_of(file))["traceEvents"] if event["pid"] == 3 and event["ph"] == "X"]
+            log, elf, file = self.exported("--perfetto", "two_locks", "--seed", seed, "--harts",
+                                           "2", "--limit", "20000")
+            waits = [event for event in json.loads(common.text_of(file))["traceEvents"]
+                     if event["pid"] == 3 and event["ph"] == "X"]
             long = [wait for wait in waits if wait["dur"] > 1000]
             self.assertEqual([wait["tid"] for wait in long], list(range(many)))
             rows = [words[0] for words in common.rows(log, elf)]
@@ -97,12 +111,15 @@ class ExportTest(case.Case):
                 self.assertTrue(wait["name"].startswith("waits in "))
                 last = max(at for at, hart in enumerate(rows) if int(hart) == wait["tid"])
                 self.assertLess(last - wait["ts"] - wait["dur"], 64)
-                self.assertEqual(rows[wait["ts"]:wait["ts"] + wait["dur"]].count(str(wait["tid"])), wait["args"]["rows"])
+                self.assertEqual(rows[wait["ts"]:wait["ts"] + wait["dur"]].count(str(wait["tid"])),
+                                 wait["args"]["rows"])
 
     def test_refusals(self):
-        log, elf = self.record("heap", "--seed", "1"), self.elf("heap")
+        log = self.record("heap", "--seed", "1")
+        elf = self.elf("heap")
         self.refuses_here(2, export, log, elf)
-        self.refuses_here(2, export, log, elf, "--lcov", common.path("a"), "--callgrind", common.path("b"))
+        self.refuses_here(2, export, log, elf, "--lcov", common.path("a"),
+                          "--callgrind", common.path("b"))
         other = common.path("precious.txt")
         for name, text in ((other, "mine"), (common.path("log.log"), "")):
             common.written(name, text)

@@ -11,21 +11,24 @@ from companion.recording.elf import FUNCTION, LOADED, WRITABLE, Elf
 def with_end(name, end):
     """A copy of a file whose writable segment has some more bytes of the file."""
     data = bytearray(common.content(common.example(name)))
-    first, count = struct.unpack_from("<I", data, 28)[0], struct.unpack_from("<H", data, 44)[0]
+    first = struct.unpack_from("<I", data, 28)[0]
+    count = struct.unpack_from("<H", data, 44)[0]
     for at in range(first, first + 32 * count, 32):
         kind, offset, _, _, in_file, in_memory, flags, _ = struct.unpack_from("<8I", data, at)
         if kind == LOADED and flags & WRITABLE:
             body = bytes(data[offset:offset + in_file]) + end
             struct.pack_into("<I", data, at + 4, len(data))
             struct.pack_into("<II", data, at + 16, len(body), max(in_memory, len(body)))
-            return common.written(common.path("end%d.elf" % len(os.listdir(common.scratch.name))), bytes(data) + body)
+            return common.written(common.path("end%d.elf" % len(os.listdir(common.scratch.name))),
+                                  bytes(data) + body)
     raise AssertionError(name)
 
 
 class ElfTest(unittest.TestCase):
     def test_zeros_at_a_segments_end_are_no_difference(self):
         """strip writes zeros that memory has there anyway."""
-        long, short, other = (Elf(with_end("heap", end)) for end in (bytes(8), b"", bytes(7) + b"x"))
+        long, short, other = (Elf(with_end("heap", end))
+                              for end in (bytes(8), b"", bytes(7) + b"x"))
         self.assertEqual((long.difference(short), short.difference(long)), ("", ""))
         self.assertRegex(other.difference(short), "^other bytes from [0-9a-f]{8} on$")
         self.assertRegex(long.difference(other), "^other bytes from [0-9a-f]{8} on$")
@@ -36,7 +39,8 @@ class ElfTest(unittest.TestCase):
         sized = [item for item in elf.functions if item.kind == FUNCTION and item.size]
         for item in sized:
             self.assertEqual(elf.function_name(item.address + item.size - 1), item.name)
-        ends = [item.address + item.size for item in sized if item.address + item.size not in begins]
+        ends = [item.address + item.size
+                for item in sized if item.address + item.size not in begins]
         self.assertTrue(ends)
         self.assertEqual({elf.function_name(end) for end in ends}, {""})
 

@@ -1,4 +1,5 @@
-"""A fault in words: words that are no instruction of RV32IMA, and a log and an ELF file that are exchanged."""
+"""A fault in words: words that are no instruction of RV32IMA, and a log and an ELF file that are
+exchanged."""
 
 import case
 from recordings import Recordings
@@ -25,6 +26,8 @@ class FaultsTest(case.Case):
             self.assertIn("  ffffffff is no instruction of RV32IMA.\n", text)
 
     def test_a_log_and_an_elf_file_that_are_exchanged(self):
-        log, elf = self.record("wild_store", "--seed", "1"), self.elf("wild_store")
+        log = self.record("wild_store", "--seed", "1")
+        elf = self.elf("wild_store")
         for word in ("why", "race", "view", "bucket", "gdb"):
-            self.assertIn("is an ELF file, and the log is named before it", self.refuses(7, word, elf, log))
+            self.assertIn("is an ELF file, and the log is named before it",
+                          self.refuses(7, word, elf, log))

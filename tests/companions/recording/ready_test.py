@@ -1,4 +1,5 @@
-"""Beside the rows that companions speak of stands, at a terminal, the command that opens gdb there."""
+"""Beside the rows that companions speak of stands, at a terminal, the command that opens gdb
+there."""
 import os
 import re
 import shlex
@@ -13,15 +14,18 @@ TERMINAL = os.path.join(common.TOP, "tests", "script", "terminal.py")
 
 def at_terminal(*words):
     """The lines that a companion shows at a terminal."""
-    done = subprocess.run([sys.executable, TERMINAL, sys.executable, common.COMPANION, *words], stdout=subprocess.PIPE, check=True)
+    done = subprocess.run([sys.executable, TERMINAL, sys.executable, common.COMPANION, *words],
+                          stdout=subprocess.PIPE, check=True)
     return re.sub(r"\\e\[\w+|\\r", "", done.stdout.decode()).split("\n")
 
 
 class ReadyTest(case.Case):
     def commands(self, *words):
-        """[(the place that a command begins at, the lines before it)], of a call that prints none elsewhere."""
+        """[(the place that a command begins at, the lines before it)], of a call that prints none
+        elsewhere."""
         self.assertNotIn("zelkuma gdb", self.says(*words))
-        lines, found = at_terminal(*words), []
+        lines = at_terminal(*words)
+        found = []
         for at, line in enumerate(lines):
             if line.strip().startswith("zelkuma gdb"):
                 told = shlex.split(line)
@@ -39,13 +43,15 @@ class ReadyTest(case.Case):
 
     def test_races(self):
         self.files = [self.record("tills", "--seed", "1", "--harts", "2"), self.elf("tills")]
-        groups = self.says("race", *self.files).count("pair on ") + self.says("race", *self.files).count("pairs on ")
+        groups = (self.says("race", *self.files).count("pair on ")
+                  + self.says("race", *self.files).count("pairs on "))
         self.assertGreater(groups, 1)
         self.opens_rows(groups, "race", *self.files)
 
     def test_writes(self):
         self.files = [self.record("word_count", "--seed", "1"), self.elf("word_count")]
-        self.opens_rows(self.says("output", *self.files).count(" to the output, in "), "output", *self.files)
+        self.opens_rows(self.says("output", *self.files).count(" to the output, in "),
+                        "output", *self.files)
 
     def test_suspects_stores_and_calls(self):
         self.files = [self.record("heap", "--seed", "1"), self.elf("heap")]
@@ -56,8 +62,10 @@ class ReadyTest(case.Case):
 
     def test_switches_of_the_short_run(self):
         elf = self.elf("filters")
-        self.files, whole = [common.path("ready.log"), elf], common.record("whole", elf, "--seed", "10", "--harts", "4")
-        found = self.commands("shrink", whole, elf, common.path("whole.book"), self.files[0], common.path("ready.turns"))
+        self.files = [common.path("ready.log"), elf]
+        whole = common.record("whole", elf, "--seed", "10", "--harts", "4")
+        found = self.commands("shrink", whole, elf, common.path("whole.book"),
+                              self.files[0], common.path("ready.turns"))
         self.assertTrue(found)
         with_rows = common.output("joint", *self.files).decode()
         for place, before in found:

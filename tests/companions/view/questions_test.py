@@ -1,4 +1,5 @@
-"""zelkuma view --with-questions: the page has what history and calls tell, and a click on a word or a name opens it."""
+"""zelkuma view --with-questions: the page has what history and calls tell, and a click on a word or
+a name opens it."""
 import json
 import unittest
 
@@ -24,15 +25,18 @@ class QuestionsTest(Pages):
         data = data_of(page)["questions"]
         self.assertGreater(len(data["variables"]), 1)
         for variable in data["variables"]:
-            said = json.loads(self.says("history", *files, variable["title"].split(" ")[0], "--json"))
+            said = json.loads(self.says("history", *files,
+                                        variable["title"].split(" ")[0], "--json"))
             self.assertEqual(variable["stores"], said["stores"])
             self.assertEqual([row[:2] + row[3:5] for row in variable["rows"]],
-                             [[each["hart"], each["count"], each["old"], each["new"]] for each in said["entries"]])
+                             [[each["hart"], each["count"], each["old"], each["new"]]
+                              for each in said["entries"]])
         names = [function["name"] for function in data["functions"]]
         self.assertLessEqual({"compute", "install"}, set(names))
         for function in data["functions"]:
             said = json.loads(self.says("calls", *files, function["name"], "--json"))
-            self.assertEqual([row[:2] for row in function["rows"]], [[each["hart"], each["count"]] for each in said["entries"]])
+            self.assertEqual([row[:2] for row in function["rows"]],
+                             [[each["hart"], each["count"]] for each in said["entries"]])
 
     def test_it_is_bounded(self):
         from companion.view import questions
@@ -40,9 +44,11 @@ class QuestionsTest(Pages):
         data = data_of(page)["questions"]
         self.assertLessEqual(len(data["variables"]), questions.VARIABLES)
         self.assertLessEqual(len(data["functions"]), questions.FUNCTIONS)
-        log, elf = self.record("heap", "--seed", "1"), self.elf("heap")
+        log = self.record("heap", "--seed", "1")
+        elf = self.elf("heap")
         data = data_of(self.says("view", log, elf, "--with-questions"))["questions"]
-        told = max(data["variables"] + data["functions"], key=lambda each: each.get("stores", 0) + each.get("calls", 0))
+        told = max(data["variables"] + data["functions"],
+                   key=lambda each: each.get("stores", 0) + each.get("calls", 0))
         self.assertGreater(told.get("stores", 0) + told.get("calls", 0), questions.TOLD)
         self.assertEqual(len(told["rows"]), questions.TOLD)
 
@@ -68,13 +74,17 @@ class ClickTest(Pages):
             browser.click_on("#rows td:nth-child(4) .question")
             self.assertRegex(text("question-head"), r"^(pool|current|started) \(")
             self.assertRegex(text("question-said"), r"^\d+ stores?$")
-            self.assertEqual(browser.run("[state.chosen.hart, state.chosen.count]"), chosen)     # the row isn't chosen by it
+            # The row isn't chosen by it
+            self.assertEqual(browser.run("[state.chosen.hart, state.chosen.count]"), chosen)
             place = text("question").split("\n")[1].split("\t")[0]
             browser.click_on("#question tr:nth-child(2) button")
-            self.assertEqual("%d:%d" % tuple(browser.run("[state.chosen.hart, state.chosen.count]")), place.replace(",", ""))
+            self.assertEqual("%d:%d"
+                             % tuple(browser.run("[state.chosen.hart, state.chosen.count]")),
+                             place.replace(",", ""))
             browser.click_on("#calls .question")
             self.assertRegex(text("question-said"), r"^\d+ calls?$")
-            self.assertEqual(text("question-head").split("(")[0], browser.run("document.querySelector('#calls .question').innerText"))
+            self.assertEqual(text("question-head").split("(")[0],
+                             browser.run("document.querySelector('#calls .question').innerText"))
             for width in (1280, 800):
                 self.opened(browser, self.page("--with-questions")[0], width=width)
                 browser.run("showHistory(asked.variables[0])")
@@ -84,13 +94,15 @@ class ClickTest(Pages):
             self.assertEqual(browser.run("byId('question-card').hidden"), True)
 
     def test_hostile_names_do_nothing(self):
-        words = hostile.files(self.elf("tills"), self.record("tills", "--seed", "1", "--harts", "2"))
+        words = hostile.files(self.elf("tills"),
+                              self.record("tills", "--seed", "1", "--harts", "2"))
         with chromium.Browser() as browser:
             _, said, _ = common.companion("view", *words, "--with-questions")
             self.opened(browser, said)
             browser.run("for (const each of asked.variables) showHistory(each)")
             browser.run("for (const each of asked.functions) showFunction(each)")
-            self.assertEqual(browser.run("document.querySelectorAll('img, iframe, [onerror], [onmouseover]').length"), 0)
+            self.assertEqual(browser.run("document.querySelectorAll('img, iframe, [onerror], "
+                                         "[onmouseover]').length"), 0)
             self.assertGreater(browser.run("asked.variables.length + asked.functions.length"), 0)
             self.assertEqual([url[:5] for url in browser.requests()], ["file:"])
             self.assertEqual(browser.errors(), [])

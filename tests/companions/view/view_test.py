@@ -24,7 +24,11 @@ class Reader(html.parser.HTMLParser):
 
     def __init__(self, text):
         super().__init__(convert_charrefs=True)
-        self.elements, self.attributes, self.scripts, self.title, self.inside = [], [], [], "", ""
+        self.elements = []
+        self.attributes = []
+        self.scripts = []
+        self.title = ""
+        self.inside = ""
         self.feed(text)
         self.close()
 
@@ -47,14 +51,18 @@ class Reader(html.parser.HTMLParser):
 
 class ViewTest(case.Case):
     def view(self, name, *options):
-        return self.says("view", self.record(name, *options), self.elf(name), "--names", self.names(name))
+        return self.says("view", self.record(name, *options), self.elf(name),
+                         "--names", self.names(name))
 
     def test_wild_store(self):
         page = self.view("wild_store", "--seed", "1")
-        reader, data = Reader(page), data_of(page)
+        reader = Reader(page)
+        data = data_of(page)
         self.assertEqual(reader.title, "wild_store.elf: LoadOutside 6e657472")
-        self.assertEqual((data["fault"], data["harts"], data["start"]), (["LoadOutside", "6e657472"], 1, [0, 22675, 22676]))
-        self.assertEqual([interval[4] for interval in data["intervals"]], ["call", "call", "LoadOutside"])
+        self.assertEqual((data["fault"], data["harts"], data["start"]),
+                         (["LoadOutside", "6e657472"], 1, [0, 22675, 22676]))
+        self.assertEqual([interval[4] for interval in data["intervals"]],
+                         ["call", "call", "LoadOutside"])
         suspect = data["suspects"][0]
         self.assertEqual(data["places"][suspect["place"]][:2], ["put_text", "machine.c:18"])
         self.assertEqual(suspect["steps"][-1]["about"], "members[20].next 'rten'")
@@ -64,22 +72,28 @@ class ViewTest(case.Case):
         first, lines = data["around"][str(data["where"])]
         self.assertEqual((first, len(lines)), (47, 3))
         self.assertIn("return session->user[0]", lines[1])
-        self.assertEqual(set(map(int, data["around"])), {data["where"]} | {item["place"] for item in data["suspects"]})
+        self.assertEqual(set(map(int, data["around"])),
+                         {data["where"]} | {item["place"] for item in data["suspects"]})
         stripped = self.record("wild_store", "--seed", "1"), self.elf("wild_store")
-        self.assertEqual({len(lines) for _, lines in data_of(self.says("view", *stripped))["around"].values()}, {0})
+        self.assertEqual({len(lines)
+                          for _, lines in data_of(self.says("view", *stripped))["around"].values()},
+                         {0})
 
     def test_a_hang_shows_its_loop(self):
         page = self.says("view", *self.crash("hang_wakeup"))
         data = data_of(page)
         self.assertEqual((data["about"], data["fault"], data["words"]), ("hang", None, []))
-        self.assertEqual(data["places"][data["where"]][:2], ["sleep_until_rung", "hang_wakeup.c:35"])
-        self.assertIn("hart 0 goes round since count 8,372: 51,628 rows, 25,814 rounds", data["hang"])
+        self.assertEqual(data["places"][data["where"]][:2],
+                         ["sleep_until_rung", "hang_wakeup.c:35"])
+        self.assertIn("hart 0 goes round since count 8,372: 51,628 rows, 25,814 rounds",
+                      data["hang"])
         self.assertTrue([line for line in data["hang"] if "(zelkuma why --more)" in line])
 
     def test_suspects_are_those_of_the_text(self):
         """What a library did is told by its caller's line on the page, in the text and in JSON."""
         log, elf = self.crash("libc_line")
-        data, answer = data_of(self.says("view", log, elf)), json.loads(self.says("why", log, elf, "--json"))
+        data = data_of(self.says("view", log, elf))
+        answer = json.loads(self.says("why", log, elf, "--json"))
         places = [" ".join(data["places"][item["place"]][:2]) for item in data["suspects"]]
         self.assertIn("finish libc_line.c:65", places)
         self.assertEqual(places, [item["where"] for item in answer["suspects"]][:len(places)])
@@ -87,7 +101,8 @@ class ViewTest(case.Case):
     def test_memory_errors_are_those_of_the_text(self):
         log, elf = self.crash("libc_end_of_block")
         lines = data_of(self.says("view", log, elf))["memory"]
-        self.assertEqual(lines[0], "1. heap-buffer-overflow: store of 1, 0 bytes after a block of 14 bytes")
+        self.assertEqual(lines[0],
+                         "1. heap-buffer-overflow: store of 1, 0 bytes after a block of 14 bytes")
         self.assertIn("\n".join("  " + line for line in lines), self.says("why", log, elf))
         self.assertEqual(data_of(self.says("view", *self.crash("null_route")))["memory"], [])
 
@@ -107,8 +122,10 @@ class ViewTest(case.Case):
         data = data_of(self.view("tills", "--seed", "1", "--harts", "2"))
         self.assertEqual(data["allRaces"], 477)
         self.assertEqual(sum(group["pairs"] for group in data["races"]), 477)
-        first, kinds = data["races"][0], [group["kind"] for group in data["races"]]
-        self.assertEqual({data["places"][first[side]][1] for side in ("first", "second")}, {"tills.c:37", "tills.c:38"})
+        first = data["races"][0]
+        kinds = [group["kind"] for group in data["races"]]
+        self.assertEqual({data["places"][first[side]][1] for side in ("first", "second")},
+                         {"tills.c:37", "tills.c:38"})
         self.assertEqual(kinds, sorted(kinds, key=["", "ordered by fences", "fenced"].index))
         self.assertEqual(kinds[-1], "fenced")
 
@@ -121,12 +138,14 @@ class ViewTest(case.Case):
             parts = row.split(" ")
             if len(parts) > 3 and parts[0].isdigit():
                 words[parts[2]] = parts[3]
-        seen, wrong = 0, []
+        seen = 0
+        wrong = []
         for hart, first, codes, tails, _ in page["windows"]:
             for offset, (code, tail) in enumerate(zip(codes, tails.split("\n"))):
                 pc, text, _ = page["codes"][code]
                 address = "%08x" % pc
-                row = "%d %d %s %s %s%s" % (hart, first + offset, address, words[address], text, tail and " | " + tail)
+                row = "%d %d %s %s %s%s" % (hart, first + offset, address, words[address],
+                                            text, tail and " | " + tail)
                 wrong += [] if row in exact else [row]
                 seen += 1
         self.assertEqual(wrong, [])
@@ -135,12 +154,15 @@ class ViewTest(case.Case):
     def test_the_page_is_one_file(self):
         reader = Reader(self.view("wild_store", "--seed", "1"))
         self.assertEqual(reader.elements.count("script"), 2)
-        self.assertEqual([tag for tag in reader.elements if tag in ("img", "link", "iframe", "object", "embed", "base")], [])
-        self.assertEqual([name for name, _ in reader.attributes if name in ("src", "href", "action") or name[:2] == "on"], [])
+        self.assertEqual([tag for tag in reader.elements
+                          if tag in ("img", "link", "iframe", "object", "embed", "base")], [])
+        self.assertEqual([name for name, _ in reader.attributes if name in ("src", "href", "action")
+                          or name[:2] == "on"], [])
         self.assertIn(("content", f"Zelkuma {common.version()}"), reader.attributes)
 
     def test_twice_the_same(self):
-        self.assertEqual(self.view("tills", "--seed", "1", "--harts", "2"), self.view("tills", "--seed", "1", "--harts", "2"))
+        self.assertEqual(self.view("tills", "--seed", "1", "--harts", "2"),
+                         self.view("tills", "--seed", "1", "--harts", "2"))
 
     def test_the_terminals_encoding_is_nothing_to_it(self):
         words = "view", self.record("tills", "--seed", "1", "--harts", "2"), self.elf("tills")
@@ -158,7 +180,8 @@ class ViewTest(case.Case):
         self.assertEqual({place[2] for place in data["places"]}, {""})
 
     def test_without_addr2line(self):
-        words = "view", self.record("tills", "--seed", "1", "--harts", "2"), self.elf("tills"), "--names", self.names("tills")
+        words = ("view", self.record("tills", "--seed", "1", "--harts", "2"), self.elf("tills"),
+                 "--names", self.names("tills"))
         status, page, err = common.companion(*words, environment={"PATH": ""})
         self.assertEqual((status, err.count("\n"), "no addr2line" in err), (0, 1, True))
         data = data_of(page)
@@ -192,14 +215,16 @@ class ViewTest(case.Case):
 
     def test_a_log_without_intervals(self):
         log = common.path("empty.log")
-        subprocess.run([common.PROGRAM, "record", "--seed", "1", "--log-size", "16384", "--limit", "3000000",
-                        self.elf("sort"), log, common.path("book")], stderr=subprocess.DEVNULL)
+        subprocess.run([common.PROGRAM, "record", "--seed", "1", "--log-size", "16384",
+                        "--limit", "3000000", self.elf("sort"), log, common.path("book")],
+                       stderr=subprocess.DEVNULL)
         self.assertEqual(self.program("list", log), "")
         self.assertIn("no row", self.refuses(14, "view", log, self.elf("sort")))
 
     def test_one_row(self):
         data = data_of(self.view("tills", "--seed", "1", "--limit", "1"))
-        self.assertEqual((data["rows"], data["start"], len(data["chain"]["nodes"])), (1, [0, 0, 1], 1))
+        self.assertEqual((data["rows"], data["start"], len(data["chain"]["nodes"])),
+                         (1, [0, 0, 1], 1))
 
     def test_refusals(self):
         log = self.record("wild_store", "--seed", "1")
@@ -209,20 +234,28 @@ class ViewTest(case.Case):
     def test_no_page_goes_to_a_terminal(self):
         log = self.record("wild_store", "--seed", "1")
         ours, theirs = pty.openpty()
-        done = subprocess.run([sys.executable, common.COMPANION, "view", log, self.elf("wild_store")], stdout=theirs, stderr=subprocess.PIPE, check=False)
+        done = subprocess.run([sys.executable, common.COMPANION, "view", log,
+                               self.elf("wild_store")], stdout=theirs,
+                              stderr=subprocess.PIPE, check=False)
         os.close(ours)
         os.close(theirs)
-        self.assertEqual((done.returncode, done.stderr), (2, b"zelkuma: the page is for a browser, and not for a terminal: zelkuma view LOG ELF >page.html\n"))
+        self.assertEqual((done.returncode, done.stderr),
+                         (2, b"zelkuma: the page is for a browser, and not for a terminal: "
+                          b"zelkuma view LOG ELF >page.html\n"))
 
 
 class HostileTest(case.Case):
     def hostile_page(self):
-        return self.says("view", *hostile.files(self.elf("tills"), self.record("tills", "--seed", "1", "--harts", "2")))
+        return self.says("view",
+                         *hostile.files(self.elf("tills"),
+                                        self.record("tills", "--seed", "1", "--harts", "2")))
 
     def test_no_name_becomes_markup(self):
-        plain = Reader(self.says("view", self.record("tills", "--seed", "1", "--harts", "2"), self.elf("tills")))
+        plain = Reader(self.says("view", self.record("tills", "--seed", "1", "--harts", "2"),
+                                 self.elf("tills")))
         page = self.hostile_page()
-        reader, data = Reader(page), data_of(page)
+        reader = Reader(page)
+        data = data_of(page)
         self.assertEqual((reader.elements, reader.attributes), (plain.elements, plain.attributes))
         told = json.dumps(data)
         self.assertIn("onerror=document.title='hit'", told)     # the names are there, as text
@@ -230,7 +263,8 @@ class HostileTest(case.Case):
         self.assertEqual(reader.scripts[1], plain.scripts[1])
 
     def test_no_source_becomes_markup(self):
-        """The path of a source, its text and its functions are hostile; a compiler is needed to write them."""
+        """The path of a source, its text and its functions are hostile; a compiler is needed to
+        write them."""
         if not shutil.which("riscv64-unknown-elf-gcc"):
             self.skipTest("riscv64-unknown-elf-gcc isn't installed")
         elf = hostile.compiled()
@@ -242,7 +276,8 @@ class HostileTest(case.Case):
         self.assertIn("<img src=x onerror=alert(1)>.c:", json.dumps(data["places"]))
 
     def test_data_has_no_letter_of_markup(self):
-        script = re.search(r'<script type="application/json" id="data">(.*?)</script>', self.hostile_page(), re.S).group(1)
+        script = re.search(r'<script type="application/json" id="data">(.*?)</script>',
+                           self.hostile_page(), re.S).group(1)
         self.assertNotRegex(script, "[<>&]")
         self.assertNotRegex(script, "[^ -~]")
 
@@ -251,7 +286,8 @@ class EdgesTest(unittest.TestCase):
     def test_evenly_chosen_edges_are_even(self):
         """Of a log whose Edges crowd at the end as many are chosen of each part."""
         class Log:
-            edges = logs.Edges(*(array.array("q", column) for column in zip(*((0, 0, i % 2, 1) for i in range(20000)))))
+            edges = logs.Edges(*(array.array("q", column)
+                                 for column in zip(*((0, 0, i % 2, 1) for i in range(20000)))))
 
         class Rows:
             size = 10000

@@ -2,8 +2,8 @@
 
 import case
 import common
-from recordings import (A0, DATA, EXIT, T0, T1, T2, addi, branch_unless_equal, elf_of, jump_to, load, lui, pc_of,
-                        store)
+from recordings import (A0, DATA, EXIT, T0, T1, T2, addi, branch_unless_equal, elf_of, jump_to,
+                        load, lui, pc_of, store)
 
 from companion.why.control import Control, other_side
 from companion.recording.elf import Elf
@@ -11,11 +11,13 @@ from companion.recording.log import read_log
 from companion.recording.trace import Trace, read_trace
 
 RA = 1
-# T0 is the data's address. Each place is told by its number; the words after `#` are what the test asks of it.
+# T0 is the data's address. Each place is told by its number; the words after `#` are what the test
+# asks of it.
 PROGRAM = [
     lui(T0, DATA),                              # 0
     addi(T1, 0, 3),                             # 1
-    addi(A0, 0, 0),                             # 2: the loop begins; decided by its branch at 10, but for the first time
+    # 2: the loop begins; decided by its branch at 10, but for the first time
+    addi(A0, 0, 0),
     branch_unless_equal(T1, T2, 12),            # 3: to 6
     addi(A0, 0, 7),                             # 4
     store(A0, T0, 4),                           # 5
@@ -44,7 +46,8 @@ class ControlTest(case.Case):
 
     def rows(self, place):
         """The rows of a place of the program."""
-        return [n for n in range(1, self.trace.rows.size + 1) if self.trace.rows.code_of(n).pc == pc_of(place)]
+        return [n for n in range(1, self.trace.rows.size + 1)
+                if self.trace.rows.code_of(n).pc == pc_of(place)]
 
     def decided_by(self, row):
         """The place of the branch that decided that a row was reached, or None."""
@@ -63,7 +66,8 @@ class ControlTest(case.Case):
         self.assertEqual(self.control.before(self.rows(5)[0]), self.rows(3)[1])
 
     def test_a_row_of_a_function(self):
-        """The branch of the function that is called, or else what decided of the call: what it returned from is passed."""
+        """The branch of the function that is called, or else what decided of the call: what it
+        returned from is passed."""
         self.assertEqual(self.decided_by(self.rows(15)[0]), 14)
         self.assertEqual(self.decided_by(self.rows(14)[2]), 10)
         self.assertEqual(self.decided_by(self.rows(8)[2]), 10)
@@ -72,10 +76,12 @@ class ControlTest(case.Case):
         self.assertIsNone(self.decided_by(self.rows(11)[0]))
 
     def test_a_branch_past_the_store_that_a_load_got(self):
-        """In the last round the branch went past the store, and so the load got that of the round before."""
+        """In the last round the branch went past the store, and so the load got that of the round
+        before."""
         self.assertEqual(self.control.kept(self.rows(11)[0], self.rows(5)[0]), self.rows(3)[2])
         self.assertEqual(self.control.kept(self.rows(11)[0], self.rows(6)[2]), 0)
 
     def test_the_other_side(self):
         branch = self.trace.rows.code_of(self.rows(3)[0])
-        self.assertEqual((branch.leads, other_side(branch, pc_of(6)), other_side(branch, pc_of(4))), (pc_of(6), pc_of(4), pc_of(6)))
+        self.assertEqual((branch.leads, other_side(branch, pc_of(6)), other_side(branch, pc_of(4))),
+                         (pc_of(6), pc_of(4), pc_of(6)))

@@ -1,7 +1,8 @@
-"""The crashing programs of tests/crashes: is the guilty line among the first three suspects of `why`?
+"""The crashing programs of tests/crashes: is the guilty line among the first three suspects of
+`why`?
 
-The shares are printed, and stand in docs/WHY.md. It fails if one falls under what stands there. CRASHES_GROUP can name one
-of the groups."""
+The shares are printed, and stand in docs/WHY.md. It fails if one falls under what stands there.
+CRASHES_GROUP can name one of the groups."""
 import filecmp
 import os
 import re
@@ -12,10 +13,13 @@ from typing import NamedTuple
 
 from common import CRASHES, PROGRAM, TOOLS, companion, crashes, path, present_tools
 
-FIRST, COMPILER, LARGE = 3, "12.2.0", 100
+FIRST = 3
+COMPILER = "12.2.0"
+LARGE = 100
 PICOLIBC = "/usr/lib/picolibc/riscv64-unknown-elf"
 # How many programs of each share have their line in the first three.
-LEAST = {"known, small": 7, "kept, small": 6, "known": 15, "opened": 32, "added": 15, "kept": 8, "fresh": 17}
+LEAST = {"known, small": 7, "kept, small": 6, "known": 15, "opened": 32, "added": 15,
+         "kept": 8, "fresh": 17}
 AT_ONCE = 3
 
 
@@ -31,7 +35,8 @@ def rank_of(line, text):
 def compiler():
     """The version of the compiler, or no."""
     try:
-        return subprocess.run(["riscv64-unknown-elf-gcc", "-dumpfullversion"], stdout=subprocess.PIPE).stdout.decode().strip()
+        return subprocess.run(["riscv64-unknown-elf-gcc", "-dumpfullversion"],
+                              stdout=subprocess.PIPE).stdout.decode().strip()
     except OSError:
         return "no"
 
@@ -41,7 +46,8 @@ def share_of(program):
 
 
 class Tried(NamedTuple):
-    """How a program's recording ended, how `why` did, and the guilty line's place among the suspects, or 0."""
+    """How a program's recording ended, how `why` did, and the guilty line's place among the
+    suspects, or 0."""
     ends: int
     status: int
     err: str
@@ -50,7 +56,8 @@ class Tried(NamedTuple):
 
 def tried(program):
     log = path(program.name + ".log")
-    done = subprocess.run([PROGRAM, "record", "--format", "2"] + program.options + [program.elf, log, path(program.name + ".book")],
+    done = subprocess.run([PROGRAM, "record", "--format", "2"] + program.options
+                          + [program.elf, log, path(program.name + ".book")],
                           stdout=subprocess.PIPE, stderr=subprocess.PIPE)
     wrong = ["--output", program.wrong] if program.wrong else []
     status, text, err = companion("why", log, program.elf, "--more", *wrong)
@@ -59,19 +66,23 @@ def tried(program):
 
 class WhyCrashes(unittest.TestCase):
     def test_kept_files(self):
-        """The ELF files that are kept are what the sources give, if the compiler is the one that built them."""
+        """The ELF files that are kept are what the sources give, if the compiler is the one that
+        built them."""
         version = compiler()
         if version != COMPILER or not os.path.isdir(PICOLIBC):
-            self.skipTest("they were built by GCC %s with picolibc, here is GCC %s" % (COMPILER, version))
+            self.skipTest("they were built by GCC %s with picolibc, "
+                          "here is GCC %s" % (COMPILER, version))
         subprocess.run([os.path.join(CRASHES, "build.sh"), path("crashes")], check=True)
         names = sorted(os.listdir(path("crashes")))
-        other = [name for name in names
-                 if not filecmp.cmp(os.path.join(CRASHES, name), os.path.join(path("crashes"), name), False)]
+        other = [name
+                 for name in names if not filecmp.cmp(os.path.join(CRASHES, name),
+                                                      os.path.join(path("crashes"), name), False)]
         self.assertTrue(names)
         self.assertEqual(other, [])
 
     def test_shares(self):
-        """Each program ends as it should and is explained, and no share falls under what stands in docs/WHY.md."""
+        """Each program ends as it should and is explained, and no share falls under what stands in
+        docs/WHY.md."""
         if not present_tools():
             self.skipTest("none of %s is there" % ", ".join(TOOLS))
         group = os.environ.get("CRASHES_GROUP")
@@ -79,14 +90,16 @@ class WhyCrashes(unittest.TestCase):
         found = {}
         with ThreadPoolExecutor(AT_ONCE) as pool:
             for one, (ends, status, err, place) in zip(programs, pool.map(tried, programs)):
-                print("        %-13s %-20s %s" % (share_of(one), one.name,
-                                                  "suspect %d" % place if place else "not among the suspects"), flush=True)
+                print("        %-13s %-20s %s" % (share_of(one), one.name, "suspect %d" % place
+                                                  if place else "not among the suspects"),
+                      flush=True)
                 with self.subTest(one.name):
                     self.assertEqual((str(ends), status), (one.ends, 0), err)
                 share = found.setdefault(share_of(one), [0, 0])
                 share[0] += 0 < place <= FIRST
                 share[1] += 1
         for key, (good, whole) in sorted(found.items()):
-            print("        %s programs: %d of %d guilty lines in the first three" % (key, good, whole))
+            print("        %s programs: "
+                  "%d of %d guilty lines in the first three" % (key, good, whole))
             with self.subTest(key):
                 self.assertGreaterEqual(good, LEAST[key])
