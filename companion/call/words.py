@@ -19,7 +19,8 @@ HEAD = """The companions: they show what the proved program says, in names, line
 
 Companions show; the program proves. `python3 companion WORD --help` tells each word.
 """
-# Of each part its words. The module of a word has its name, HELP, and main(words), which gives the exit status.
+# Of each part its words. The module of a word has its name, HELP, and main(words), which gives the
+# exit status.
 PARTS = {
     "recording": "names",
     "why": "why output",
@@ -51,7 +52,8 @@ def run(words: list[str]) -> int:
         streams.put(f"zelkuma {version()}\n")
         return 0
     if words[0] not in WORDS:
-        raise CompanionError(f"no companion is called {words[0]!r}{near(words[0], WORDS)}: {', '.join(WORDS)}", REFUSED)
+        raise CompanionError(f"no companion is called {words[0]!r}{near(words[0], WORDS)}: "
+                             f"{', '.join(WORDS)}", REFUSED)
     if words[1:] in (["-h"], ["--help"]):
         streams.put(help_of(words[0]).text())
         return 0
@@ -85,15 +87,18 @@ def guarded(words: list[str]) -> int:
     except OSError as error:
         streams.say(f"{error.filename or 'a file'}: {error.strerror or error}")
         return UNREADABLE
-    except Exception as error:                  # the last resort: a line for the user, the traceback on demand
+    except Exception as error:
+        # The last resort: a line for the user, the traceback on demand
         if os.environ.get("ZELKUMA_TRACEBACK"):
             raise
-        streams.say(f"{words[0]} failed inside ({type(error).__name__}: {error}); ZELKUMA_TRACEBACK=1 shows where")
+        streams.say(f"{words[0]} failed inside ({type(error).__name__}: {error}); "
+                    "ZELKUMA_TRACEBACK=1 shows where")
         return BROKEN
 
 
 def main(words: list[str]) -> None:
-    """Ends the process with the status of a word: at once, whatever the environment asks of python."""
+    """Ends the process with the status of a word: at once, whatever the environment asks of
+    python."""
     streams.prepare()
     try:
         streams.on_interrupt(streams.interrupt)

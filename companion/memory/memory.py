@@ -37,7 +37,8 @@ LARGEST_MEMORY = 64 << 20   # bytes of the guest: of each word a tag of eight by
 def notes_of(log: Log) -> List[str]:
     if log.unread:
         return [f"Only the last {number(log.rows())} rows were read; --rows N reads more."]
-    return [f"The log gave up {number(log.dropped)} records before its first row."] if log.dropped else []
+    return ([f"The log gave up {number(log.dropped)} records before its first row."] if log.dropped
+            else [])
 
 
 def names_in(given: Mapping[str, str], option: str) -> List[str]:
@@ -49,10 +50,13 @@ def main(words: List[str]) -> int:
     with opened(log_name, elf_name, given) as found:
         log = found.log(MOST_ROWS)
         if log.memory > LARGEST_MEMORY:
-            raise CompanionError(f"memory: the recorded program has {number(log.memory)} bytes of memory, and this can follow "
-                                 f"{number(LARGEST_MEMORY)}", REFUSED)
-        run = run_of(log, found.elf.name, found.named, names_in(given, "--alloc"), names_in(given, "--free"))
-        leaks = leaks_of(run.heap, run.harts, log.name, found.elf.name) if "--leaks" in given else []
+            raise CompanionError(f"memory: the recorded program has {number(log.memory)} bytes of "
+                                 f"memory, and this can follow {number(LARGEST_MEMORY)}", REFUSED)
+        run = run_of(log, found.elf.name, found.named, names_in(given, "--alloc"),
+                     names_in(given, "--free"))
+        leaks = (leaks_of(run.heap, run.harts, log.name, found.elf.name) if "--leaks" in given
+                 else [])
         answer = Answer(run, found.places, notes_of(log), leaks)
         put_found("memory", answer, Answer.lines, Answer.answer, "--json" in given)
-    return FOUND if "--fail" in given and (answer.findings or any(leak.unreached for leak in leaks)) else 0
+    return (FOUND if "--fail" in given
+            and (answer.findings or any(leak.unreached for leak in leaks)) else 0)

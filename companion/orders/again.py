@@ -43,7 +43,8 @@ LARGEST = 2**64 - 1                     # the program knows the ranges of its se
 def record(options: Mapping[str, str], elf: str, book: str, folder: str) -> tuple[str, str, str]:
     """A recording by BOOK's turns, in a folder: its log, its list of turns and its summary."""
     log, new_book, said = (os.path.join(folder, name) for name in ("log", "book", "said"))
-    words = ["record", *(f"{name}={value}" for name, value in options.items()), "--", elf, log, new_book]
+    words = ["record", *(f"{name}={value}" for name, value in options.items()), "--", elf,
+             log, new_book]
     with Quick(folder) as quick:
         status = quick.start(os.devnull, said, *words, schedule=f"book:{book}").wait()
     if status not in ENDS:
@@ -53,10 +54,12 @@ def record(options: Mapping[str, str], elf: str, book: str, folder: str) -> tupl
 
 def first_difference(one: str, other: str) -> int:
     """The first turn that differs between two lists, or -1."""
-    turns, others = Path(one).read_bytes(), Path(other).read_bytes()
+    turns = Path(one).read_bytes()
+    others = Path(other).read_bytes()
     if turns == others:
         return -1
-    return next((at for at, pair in enumerate(zip(turns, others)) if pair[0] != pair[1]), min(len(turns), len(others)))
+    return next((at for at, pair in enumerate(zip(turns, others)) if pair[0] != pair[1]),
+                min(len(turns), len(others)))
 
 
 def ends_of(log: str) -> dict[str, str]:
@@ -72,28 +75,33 @@ def tell_turns(book: str, new_book: str, new_list: Target) -> None:
         streams.put(f"turns: the {counted(os.path.getsize(book), 'turn')} of BOOK\n")
         return
     new_list.take(new_book)
-    streams.put(f"turns: not those of BOOK from turn {number(at)} on; they are saved as {new_list.path}\n")
+    streams.put(f"turns: not those of BOOK from turn {number(at)} on; "
+                f"they are saved as {new_list.path}\n")
 
 
 def tell_ends(log: str, new_log: str) -> int:
     """Says whether the harts ended alike: the status. A log can have lost a hart."""
-    old, new = ends_of(log), ends_of(new_log)
+    old = ends_of(log)
+    new = ends_of(new_log)
     others = sorted(hart for hart, end in old.items() if hart in new and new[hart] != end)
     if not others:
         streams.put("ends: those of LOG\n")
         return 0
     hart = others[0]
-    streams.put(f"ends: not those of LOG: hart {hart} ended with {new[hart]}, and in LOG with {old[hart]}\n")
+    streams.put(f"ends: not those of LOG: hart {hart} ended with {new[hart]}, "
+                f"and in LOG with {old[hart]}\n")
     return DIFFERS
 
 
 def main(words: list[str]) -> int:
     (log, elf, book, output), given = read_words(words, HELP.form)
-    numbers = {name: str(whole(given[name], 1, LARGEST, name)) for name in ("--log-size", "--interval") if name in given}
+    numbers = {name: str(whole(given[name], 1, LARGEST, name))
+               for name in ("--log-size", "--interval") if name in given}
     source = {"--input": given["--input"]} if "--input" in given else {}
     read = log, elf, book, *source.values()
     check_regular(*read)
-    new_log, new_list = target(output, LOG, read), target(output + ".book", TURNS, [*read, output])
+    new_log = target(output, LOG, read)
+    new_list = target(output + ".book", TURNS, [*read, output])
     check_book(log, elf, book, [f"--input={name}" for name in source.values()])
     options = {**LogFile(log).head.settings(), **source, **numbers}
     with new_log.scratch() as folder:

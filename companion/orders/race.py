@@ -38,34 +38,42 @@ the fenced accesses themselves: loads and stores beside a `fence`, as GCC writes
 release. That order and the grouping are this command's own judgement. The exact list is that of
 `zelkuma races`: pairs of accesses that no atomic instruction orders.""")
 FAR = 1 << 20                                # what a row costs that isn't on the chain
-MOST, GROUPS_TOLD, BRIEF_TOLD = 200000, 12, 6
+MOST = 200000
+GROUPS_TOLD = 12
+BRIEF_TOLD = 6
 KINDS = ("", ORDERED, FENCED)                # in the order in which groups are told
 ON_CHAIN, CHAIN_WORD, IN_FAULT, OTHER = range(4)
-HEADS = {ORDERED: "ORDERED BY FENCES: these pairs are ordered if the fenced accesses below are meant as acquire and release",
+HEADS = {ORDERED: "ORDERED BY FENCES: "
+         "these pairs are ordered if the fenced accesses below are meant as acquire and release",
          FENCED: "FENCED: both accesses stand beside a fence, as GCC writes acquire and release"}
 Beside = Callable[[RacingAccess], List[str]]        # what is told beside a row
-RANK_WORDS = {ON_CHAIN: "on the chain of values behind the fault", CHAIN_WORD: "touches a word of that chain",
+RANK_WORDS = {ON_CHAIN: "on the chain of values behind the fault",
+              CHAIN_WORD: "touches a word of that chain",
               IN_FAULT: "in the function that faulted", OTHER: ""}
 
 
 class Judged:
     """The groups of a log in the order in which they are told, and why each has its place.
 
-    A family is the groups of one object's words that have the same places. It is told as one group."""
+    A family is the groups of one object's words that have the same places. It is told as one
+    group."""
 
-    def __init__(self, races: Races, trace: Optional[Trace] = None, history: Optional[History] = None,
-                 ignored: Ignored = Ignored([])) -> None:
+    def __init__(self, races: Races, trace: Optional[Trace] = None,
+                 history: Optional[History] = None, ignored: Ignored = Ignored([])) -> None:
         """`history` is of the rows behind the fault, or None if no hart faulted."""
-        self.races, self.rows = races, trace and trace.rows
+        self.races = races
+        self.rows = trace and trace.rows
         self.chain: dict[int, int] = {}
         self.fault_function = ""
         if trace and history:
-            self.chain = {row: cost for row, cost in history.cost.items() if row not in history.decided}
+            self.chain = {row: cost
+                          for row, cost in history.cost.items() if row not in history.decided}
             self.fault_function = races.places.function(trace.rows.code_of(history.start).pc)
         self.costs: list[Optional[int]] = [None] * len(races.groups)
         self.words: dict[int, int] = {}
         self.follow_chain()
-        self.groups = sorted((group for group in races.groups if not ignored.fits(races, group)), key=self.key)
+        self.groups = sorted((group for group in races.groups if not ignored.fits(races, group)),
+                             key=self.key)
         self.left_out = len(races.groups) - len(self.groups)
 
     def follow_chain(self) -> None:
@@ -75,14 +83,16 @@ class Judged:
         for hart, count, other, other_count, at, _ in zip(*self.races.pairs):
             cost = self.cost(At(hart, count)) + self.cost(At(other, other_count))
             if cost < 2 * FAR:
-                word, least = self.races.groups[at].word, self.costs[at]
+                word = self.races.groups[at].word
+                least = self.costs[at]
                 self.costs[at] = cost if least is None else min(cost, least)
                 self.words[word] = min(cost, self.words.get(word, cost))
 
     def cost(self, access: At) -> int:
         """How far a row is from the fault. A pair with both rows on the chain comes before one with
         one: there the load got what the other access stored."""
-        return self.chain.get(self.rows.row_of(access.hart, access.count), FAR) if self.rows else FAR
+        return (self.chain.get(self.rows.row_of(access.hart, access.count), FAR) if self.rows
+                else FAR)
 
     def rank(self, group: Group) -> int:
         if self.costs[group.number] is not None:
@@ -98,7 +108,8 @@ class Judged:
                 self.words.get(group.word, 0), -group.pairs, group.number)
 
     def pair(self, group: Group) -> AccessPair:
-        """The pair that tells most of a group: of those that are kept the one nearest to the fault on its chain."""
+        """The pair that tells most of a group: of those that are kept the one nearest to the fault
+        on its chain."""
         if not self.chain:
             return group.first[0]
         return min(group.first, key=lambda pair: sum(self.cost(access.at()) for access in pair))
@@ -112,14 +123,16 @@ class Judged:
         found: dict[tuple[str, Symbol | int, str, str], list[Group]] = {}
         for group in self.groups:
             holder = self.races.named.object_at(group.word) or group.word
-            found.setdefault((group.kind, holder, group.places[0], group.places[1]), []).append(group)
+            found.setdefault((group.kind, holder, group.places[0], group.places[1]),
+                             []).append(group)
         return list(found.values())
 
     def reason(self, group: Group) -> str:
         return ", ".join(word for word in (RANK_WORDS[self.rank(group)], group.kind) if word)
 
 
-def family_lines(races: Races, family: list[Group], place: int, judged: Judged, beside: Beside) -> list[str]:
+def family_lines(races: Races, family: list[Group], place: int, judged: Judged,
+                 beside: Beside) -> list[str]:
     """A family with a pair of its first group, and what is told beside the later access."""
     reason = judged.reason(family[0])
     said = [f"{place:2}. {counted(pairs_of(family), 'pair')} on {family_word(races, family)}"
@@ -146,7 +159,8 @@ def family_word(races: Races, family: list[Group]) -> str:
 
 def brief_line(races: Races, family: list[Group]) -> str:
     one, other = family[0].places
-    return f"    {number(pairs_of(family)):>7}  {family_word(races, family):<28} {one}  and  {other}"
+    return (f"    {number(pairs_of(family)):>7}  {family_word(races, family):<28} {one}  "
+            f"and  {other}")
 
 
 def report(races: Races, judged: Judged, more: bool, beside: Beside) -> list[str]:
@@ -154,8 +168,8 @@ def report(races: Races, judged: Judged, more: bool, beside: Beside) -> list[str
     for family in judged.families():
         families[family[0].kind].append(family)
     total = sum(map(len, families.values()))
-    lines = [f"RACES: {counted(races.total, 'pair')} in {counted(total, 'group')}. Grouping and order are this command's "
-             "own judgement; zelkuma races lists each."]
+    lines = [f"RACES: {counted(races.total, 'pair')} in {counted(total, 'group')}. "
+             "Grouping and order are this command's own judgement; zelkuma races lists each."]
     for kind, found in families.items():
         told = found if more else found[:BRIEF_TOLD if kind else GROUPS_TOLD]
         if kind and found:
@@ -163,15 +177,18 @@ def report(races: Races, judged: Judged, more: bool, beside: Beside) -> list[str
         elif total and not kind and not found:
             lines.append("  none but those below")
         for place, family in enumerate(told, 1):
-            lines += [brief_line(races, family)] if kind else family_lines(races, family, place, judged, beside)
+            lines += ([brief_line(races, family)] if kind
+                      else family_lines(races, family, place, judged, beside))
         if len(told) < len(found):
             lines.append(f"    .. {counted(len(found) - len(told), 'more group')} (--more) ..")
-    ignored = [f"left out: {counted(judged.left_out, 'group')} that --ignore names"] if judged.left_out else []
+    ignored = ([f"left out: {counted(judged.left_out, 'group')} that --ignore names"]
+               if judged.left_out else [])
     return lines + ignored + races.places.trouble()
 
 
 def judge(source: LogFile, elf_name: str, races: Races, ignored: Ignored) -> Judged:
-    """The groups in order; if a hart faulted, the chain behind its fault is followed in the last rows."""
+    """The groups in order; if a hart faulted, the chain behind its fault is followed in the last
+    rows."""
     log = source.end(FIRST_ROWS) if races.groups else None
     if not log or not log.faulted:
         return Judged(races, ignored=ignored)
@@ -184,8 +201,9 @@ def judge(source: LogFile, elf_name: str, races: Races, ignored: Ignored) -> Jud
 def family_answer(races: Races, judged: Judged, family: list[Group]) -> dict[str, Any]:
     one, other = judged.pair(family[0])
     return {"pairs": pairs_of(family), "words": [f"{group.word:08x}" for group in family[:LONGEST]],
-            "name": family_word(races, family), "kind": family[0].kind, "judged": judged.reason(family[0]),
-            "one": access_answer(races, one), "other": access_answer(races, other)}
+            "name": family_word(races, family), "kind": family[0].kind,
+            "judged": judged.reason(family[0]), "one": access_answer(races, one),
+            "other": access_answer(races, other)}
 
 
 def access_answer(races: Races, access: RacingAccess) -> dict[str, Any]:
@@ -201,12 +219,15 @@ def main(words: list[str]) -> int:
         source = found.source
         races = Races(found.named, found.places).read(source.head.harts, log_name, elf_name, most)
         if races.over:
-            raise CompanionError(f"races: more than {most} pairs; --max takes up to 1000000", TOO_MANY)
-        judged, teller = judge(source, elf_name, races, ignored), Teller(found.named, races.places)
+            raise CompanionError(f"races: more than {most} pairs; --max takes up to 1000000",
+                                 TOO_MANY)
+        judged = judge(source, elf_name, races, ignored)
+        teller = Teller(found.named, races.places)
         story = asked_story(given, source.end(FIRST_ROWS), elf_name) if "--book" in given else None
         if "--json" in given:
             groups = [family_answer(races, judged, family) for family in judged.families()]
-            put_answer("race", pairs=races.total, groups=groups, ignored=judged.left_out, book=teller.story_answer(story))
+            put_answer("race", pairs=races.total, groups=groups, ignored=judged.left_out,
+                       book=teller.story_answer(story))
         else:
             def beside(access: RacingAccess) -> list[str]:
                 return found.ready(access.hart, access.count)

@@ -1,4 +1,5 @@
-"""Asks if a build is mended: by the order of a recorded crash, or by order files, which are tests of it."""
+"""Asks if a build is mended: by the order of a recorded crash, or by order files, which are tests
+of it."""
 from __future__ import annotations
 
 import os
@@ -74,16 +75,20 @@ says what that is worth. The status is
         "--json": "prints one JSON object in place of the text (docs/ORDERS.md)",
     },
     "docs/ORDERS.md tells how an order is written by hand.")
-VALUES = "--tries --input --output --names --old-names --source --order --save --elfs --junit".split()
+VALUES = ("--tries --input --output --names --old-names --source --order --save "
+          "--elfs --junit".split())
 OF_LOG = "--input", "--output", "--old-names", "--order"
 OF_ONE = *OF_LOG, "--names", "--save"
 MOST_ORDERS = 1000          # of a folder
-IN_LOG, IN_FILE = 4, 2      # names
+# Names
+IN_LOG = 4
+IN_FILE = 2
 
 
 @dataclass(frozen=True)
 class Work:
-    """What each check needs: a maker of recordings, how many orders near one are tried, and folders of sources."""
+    """What each check needs: a maker of recordings, how many orders near one are tried, and folders
+    of sources."""
     quick: Quick
     tries: int
     folders: Sequence[str]
@@ -95,7 +100,8 @@ class Work:
 
 @dataclass(frozen=True)
 class Saved:
-    """The files of a run that ends badly. `input` is that of an order file, and input_name its name or the user's own."""
+    """The files of a run that ends badly. `input` is that of an order file, and input_name its name
+    or the user's own."""
     log: Target
     book: Target
     input: Optional[Target]
@@ -104,12 +110,15 @@ class Saved:
 
 def saved_as(name: str, order: Order, input_name: str, read: Sequence[str]) -> Saved:
     """CompanionError if a run may not be saved under a name."""
-    beside = input_target(name, order.input, read) if order.input is not None and not input_name else None
-    return Saved(target(name + ".log", LOG, read), target(name + ".book", TURNS, [*read, name + ".log"]), beside,
+    beside = (input_target(name, order.input, read) if order.input is not None and not input_name
+              else None)
+    return Saved(target(name + ".log", LOG, read),
+                 target(name + ".book", TURNS, [*read, name + ".log"]), beside,
                  beside.name if beside else input_name)
 
 
-def recorded_order(names: Sequence[str], given: Mapping[str, str], work: Work) -> Tuple[Order, List[str]]:
+def recorded_order(names: Sequence[str], given: Mapping[str, str],
+                   work: Work) -> Tuple[Order, List[str]]:
     """The order of LOG, ELF and BOOK, and what is to be said of its lines."""
     log, elf_name, book = names
     words = ["--input", given["--input"]] if "--input" in given else []
@@ -120,7 +129,8 @@ def recorded_order(names: Sequence[str], given: Mapping[str, str], work: Work) -
         meaning = Meaning(program)
         telling = Telling(work.quick, meaning, options, offset, work.tries, work.jobs)
         if options["--harts"] == "1":
-            check_book(log, elf_name, book, [f"--input={options['--input']}"] if "--input" in options else [])
+            check_book(log, elf_name, book,
+                       [f"--input={options['--input']}"] if "--input" in options else [])
             order = telling.of_one_hart()
         else:
             check_recording(log, elf_name, book, options, byte is not None)
@@ -134,7 +144,8 @@ def recorded_order(names: Sequence[str], given: Mapping[str, str], work: Work) -
     return order, trouble
 
 
-def check_build(order: Order, new: str, names: str, work: Work, saved: Optional[Saved] = None) -> Tuple[Checked, List[str]]:
+def check_build(order: Order, new: str, names: str, work: Work,
+                saved: Optional[Saved] = None) -> Tuple[Checked, List[str]]:
     """What is found of a build, and what else is to be said."""
     options: Dict[str, str] = {**DEFAULTS, **order.settings}
     if order.input is not None:
@@ -192,7 +203,8 @@ def find_build(folder: str, program: str) -> str:
     """The program of a name below a folder."""
     found = [os.path.join(at, program) for at, _, files in os.walk(folder) if program in files]
     if len(found) != 1:
-        raise CompanionError(f"{folder} has {counted(len(found), 'file')} of the name {program}, and not one", MISSING)
+        raise CompanionError(f"{folder} has {counted(len(found), 'file')} of the name {program}, "
+                             "and not one", MISSING)
     return found[0]
 
 
@@ -200,15 +212,18 @@ def check_folder(folder: str, given: Mapping[str, str], work: Work) -> List[Resu
     """Checks each order of a folder. One that can't be checked is told, and the others are."""
     names = sorted(str(name) for name in Path(folder).rglob("*" + SUFFIX))
     if not names or len(names) > MOST_ORDERS:
-        raise CompanionError(f"{folder} has {counted(len(names), 'order file')} (NAME{SUFFIX}), and not 1 to {MOST_ORDERS}", MISSING)
+        raise CompanionError(f"{folder} has {counted(len(names), 'order file')} (NAME{SUFFIX}), "
+                             f"and not 1 to {MOST_ORDERS}", MISSING)
     found = []
     for name in names:
         result = Result(os.path.relpath(name, folder)[:-len(SUFFIX)])
         try:
             order = read_order(name)
-            result.found, _ = check_build(order, find_build(given["--elfs"], order.program), "", work)
+            result.found, _ = check_build(order, find_build(given["--elfs"], order.program),
+                                          "", work)
         except CompanionError as error:
-            result.refused, result.refusal = str(error), error.status
+            result.refused = str(error)
+            result.refusal = error.status
         found.append(result)
         if "--json" not in given:
             streams.put(f"{result.status:>3}  {result.name}: {result.text()}\n")
@@ -220,23 +235,29 @@ def check_folder(folder: str, given: Mapping[str, str], work: Work) -> List[Resu
 def status_of(results: Sequence[Result]) -> int:
     """The first bad end's, else that of one that isn't sure or can't be checked."""
     all_of_them = [result.status for result in results if result.status != HOLDS]
-    return next((status for status in all_of_them if status != UNSURE), UNSURE if all_of_them else HOLDS)
+    return next((status for status in all_of_them if status != UNSURE),
+                UNSURE if all_of_them else HOLDS)
 
 
 def main(words: List[str]) -> int:
     known = {**dict.fromkeys(VALUES, True), "--json": False}
     names, given = parse(words, known, range(1, IN_LOG + 1), HELP.form)
-    wanted = 1 if "--elfs" in given else IN_LOG if any(option in given for option in OF_LOG) else len(names)
-    if len(names) != wanted or wanted not in (IN_LOG, IN_FILE, 1) or (wanted == 1 and "--elfs" not in given):
+    wanted = (1 if "--elfs" in given
+              else IN_LOG if any(option in given for option in OF_LOG) else len(names))
+    if (len(names) != wanted or wanted not in (IN_LOG, IN_FILE, 1)
+            or (wanted == 1 and "--elfs" not in given)):
         raise CompanionError(f"{len(names)} names are given; the words are: {HELP.form}", REFUSED)
     alone = [option for option in OF_ONE if option in given]
     if wanted == 1 and alone:
-        raise CompanionError(f"{alone[0]} is for one order, and can't be given with --elfs", REFUSED)
+        raise CompanionError(f"{alone[0]} is for one order, and can't be given with --elfs",
+                             REFUSED)
     tries = whole(given.get("--tries", str(TRIES)), 0, MOST_TRIES, "--tries")
     junit = target(given["--junit"], JUNIT, names) if "--junit" in given else None
-    with Scratch(MEMORY_FOLDER if os.access(MEMORY_FOLDER, os.W_OK) else "") as folder, Quick(folder) as quick:
+    with Scratch(MEMORY_FOLDER if os.access(MEMORY_FOLDER, os.W_OK)
+                 else "") as folder, Quick(folder) as quick:
         work = Work(quick, tries, source_folders(given))
-        results = check_folder(names[0], given, work) if wanted == 1 else check_one(names, given, work)
+        results = (check_folder(names[0], given, work) if wanted == 1
+                   else check_one(names, given, work))
     if junit:
         junit.save(junit_text(results).encode())
     return status_of(results)

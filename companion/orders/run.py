@@ -38,10 +38,15 @@ of eight times as many, and so on, and LOG says the last of these. With several 
 the end: one that stops changes what others do. Ctrl-C (or TERM, HUP) keeps what was run: the same
 turns are recorded again, up to a limit just below. A second one keeps the last step. The status is
 130 (143, 129).""")
-FIRST_LIMIT, STEP = 1000000, 8              # instructions; how many times as many the next recording may do
-USUAL_LIMIT, HIGHEST_LIMIT = 1000000000, 1 << 40
-LEAST_GAIN, NEARLY = 1.5, 0.9               # a recording that ends earlier than so many times the last step isn't made; of what was reached
-FAULTED, TIMED_OUT = 139, 124               # what shells say of SIGSEGV, and `timeout`
+FIRST_LIMIT = 1000000  # instructions
+STEP = 8  # how many times as many the next recording may do
+USUAL_LIMIT = 1000000000
+HIGHEST_LIMIT = 1 << 40
+LEAST_GAIN = 1.5  # a recording that ends earlier than so many times the last step isn't made
+NEARLY = 0.9  # of what was reached
+# What shells say of SIGSEGV, and `timeout`
+FAULTED = 139
+TIMED_OUT = 124
 SUMMARY = re.compile(rb"bugnet: (turns \d+ instructions \d+ [^\n]*)\n\Z")
 
 
@@ -59,7 +64,8 @@ class Run:
 
     def __init__(self, words: List[str]) -> None:
         (self.elf,), given = parse(words, RECORD_OPTIONS, ["ELF"], HELP.form)
-        given = {name: decimal(value) if name in NUMBERS else value for name, value in given.items()}
+        given = {name: decimal(value) if name in NUMBERS else value
+                 for name, value in given.items()}
         self.limit = whole(given.pop("--limit", str(USUAL_LIMIT)), 1, HIGHEST_LIMIT, "--limit")
         self.has_one_hart = given.get("--harts", "1") == "1"
         turns = {} if SCHEDULE in os.environ else {"--seed": "1"}
@@ -68,17 +74,21 @@ class Run:
         name = self.elf[:-len(".elf")] if self.elf.endswith(".elf") else self.elf
         read = [self.elf, given.get("--input", "")]
         self.log = target(name + ".log", LOG, read)
-        self.targets = [self.log] if "--lean" in given else [self.log, target(name + ".book", TURNS, [*read, self.log.name])]
+        self.targets = ([self.log] if "--lean" in given
+                        else [self.log, target(name + ".book", TURNS, [*read, self.log.name])])
         self.told = 0, 0                        # bytes of out and err that were passed on
         self.stopped = 0
 
     def record(self, quick: Quick, limit: int, part: str) -> Optional[Step]:
         """One recording, or None if a signal came."""
         made = [os.path.join(quick.folder, f"{part}.{at}") for at in range(2)]
-        said, err = made[0] + ".said", made[0] + ".err"
-        options = [f"{name}={value}" if RECORD_OPTIONS[name] else name for name, value in self.options.items()]
+        said = made[0] + ".said"
+        err = made[0] + ".err"
+        options = [f"{name}={value}" if RECORD_OPTIONS[name] else name
+                   for name, value in self.options.items()]
         began = time.monotonic()
-        child = quick.start(said, err, "record", *options, f"--limit={limit}", "--", self.elf, *made, schedule=os.environ.get(SCHEDULE, ""))
+        child = quick.start(said, err, "record", *options, f"--limit={limit}", "--", self.elf,
+                            *made, schedule=os.environ.get(SCHEDULE, ""))
 
         def stop(number: int, _: object) -> None:
             self.stopped = number
@@ -103,13 +113,16 @@ class Run:
 
     def steps(self, quick: Quick) -> Optional[Step]:
         """Recordings with a limit that rises; the last that is done."""
-        done, limit, began = None, min(FIRST_LIMIT, self.limit), time.monotonic()
+        done = None
+        limit = min(FIRST_LIMIT, self.limit)
+        began = time.monotonic()
         while True:
             began = time.monotonic()
             made = self.record(quick, limit, f"step-{limit}")
             if made is None:
                 return self.nearly(quick, done, time.monotonic() - began)
-            done, is_last = made, made.status != LIMIT or limit == self.limit
+            done = made
+            is_last = made.status != LIMIT or limit == self.limit
             if is_last:
                 return done
             if self.has_one_hart:
@@ -117,21 +130,25 @@ class Run:
             limit = min(limit * STEP, self.limit)
 
     def nearly(self, quick: Quick, done: Optional[Step], seconds: float) -> Optional[Step]:
-        """After a signal: a recording of nearly what the one had reached that it ended, as far as its time tells."""
+        """After a signal: a recording of nearly what the one had reached that it ended, as far as
+        its time tells."""
         if done is None or done.seconds * LEAST_GAIN > seconds:
             return done
         limit = min(int(done.limit * seconds / done.seconds * NEARLY), self.limit)
-        streams.say(f"stopped: what was run is recorded, up to {limit:,} instructions; a second Ctrl-C keeps {done.limit:,}")
+        streams.say(f"stopped: what was run is recorded, up to {limit:,} instructions; "
+                    f"a second Ctrl-C keeps {done.limit:,}")
         return self.record(quick, limit, "nearly") or done
 
     def finish(self, step: Step) -> int:
         """Saves the recording, and tells how it ended. The status."""
         summary = last_line(step.files[0] + ".err").partition(": ")[2]
-        saved = [(place, name) for place, name in zip(self.targets, step.files) if os.path.exists(name)]
+        saved = [(place, name)
+                 for place, name in zip(self.targets, step.files) if os.path.exists(name)]
         take_together(saved)                    # first: nobody may read what is passed on
         self.pass_on(step)
         streams.say(f"{' and '.join(place.name for place, _ in saved)}: {summary}")
-        status = TIMED_OUT if step.status == LIMIT else exit_code(self.log.path) or 0 if step.status == DONE else FAULTED
+        status = (TIMED_OUT if step.status == LIMIT
+                  else exit_code(self.log.path) or 0 if step.status == DONE else FAULTED)
         if status:
             streams.show("".join(line + "\n" for line in brief_of(self.log.name, self.elf)))
             streams.say(f"`zelkuma why {self.log.name} {self.elf}` tells more")

@@ -71,28 +71,35 @@ Over machines, each of which has a part; `triage` joins what they found:
     parallel --sshloginfile MACHINES \\
         zelkuma seeds --all found/{} --part {}/8 1 1000 -- program.elf ::: 1 2 3 4 5 6 7 8
     zelkuma triage found --elfs .""")
-KINDS = {"seeds": Kind.SEED, "bursts": Kind.BURSTS, "sleepers": Kind.SLEEPER, "threads": Kind.THREADS}
+KINDS = {"seeds": Kind.SEED, "bursts": Kind.BURSTS,
+         "sleepers": Kind.SLEEPER, "threads": Kind.THREADS}
 HEAD = "status", "count", "first", "place"
 LAST_NUMBER = 2**64 - 1
 
 
 def split(words: list[str]) -> tuple[list[str], list[str]]:
-    """The words before the first `--`, with -j as an option of its full name, and those behind it."""
+    """The words before the first `--`, with -j as an option of its full name, and those behind
+    it."""
     at = words.index("--") if "--" in words else len(words)
-    own = ["--jobs" if word == "-j" else "--jobs=" + word[2:] if word[:2] == "-j" else word for word in words[:at]]
+    own = ["--jobs" if word == "-j" else "--jobs=" + word[2:] if word[:2] == "-j" else word
+           for word in words[:at]]
     return own, words[at + 1:]
 
 
 def kinds_of(options: Mapping[str, str], is_lean: bool, wanted: Optional[Wanted]) -> list[Kind]:
-    """The kinds of turns, in order. Turns of threads can be taken again only from BOOK; a slow run in threads comes to its
-    limit without a hang; and parts that make all runs are to give what the whole gives."""
+    """The kinds of turns, in order. Turns of threads can be taken again only from BOOK; a slow run
+    in threads comes to its limit without a hang; and parts that make all runs are to give what the
+    whole gives."""
     leaves_out = is_lean or wanted is None or wanted.has_slow_runs
-    words = options["--only"].split(",") if "--only" in options else [name for name in KINDS if name != "threads" or not leaves_out]
+    words = (options["--only"].split(",") if "--only" in options
+             else [name for name in KINDS if name != "threads" or not leaves_out])
     for word in words:
         if word not in KINDS:
-            raise CompanionError(f"--only takes some of {', '.join(KINDS)}, with commas between them, not {word!r}", REFUSED)
+            raise CompanionError(f"--only takes some of {', '.join(KINDS)}, "
+                                 f"with commas between them, not {word!r}", REFUSED)
     if is_lean and "threads" in words:
-        raise CompanionError("with --lean there is no BOOK, by which a recording in threads could be made again", REFUSED)
+        raise CompanionError("with --lean there is no BOOK, "
+                             "by which a recording in threads could be made again", REFUSED)
     return sorted({KINDS[word] for word in words})
 
 
@@ -104,7 +111,8 @@ def table(counts: Mapping[Ending, Count]) -> str:
     rows = [HEAD] + [(str(ending.status), number(count.count), str(count.first), ending.place)
                      for ending, count in in_order(counts)]
     widths = [max(len(row[column]) for row in rows) for column in range(3)]
-    return "".join("  ".join([cell.ljust(width) for cell, width in zip(row, widths)] + [row[3]]) + "\n" for row in rows)
+    return "".join("  ".join([cell.ljust(width) for cell, width in zip(row, widths)] + [row[3]])
+                   + "\n" for row in rows)
 
 
 def said_end(search: TrialSearch) -> str:
@@ -116,7 +124,8 @@ def said_end(search: TrialSearch) -> str:
 
 
 def tell(search: TrialSearch) -> None:
-    text, found = "", search.found
+    text = ""
+    found = search.found
     if found is not None:
         text = f"{found.plan}: {said_end(search)}\n{search.words.shown(found.plan)}\n"
     if search.endings.counts:
@@ -125,26 +134,33 @@ def tell(search: TrialSearch) -> None:
 
 
 def fields_of(plan: Optional[Plan]) -> dict[str, object]:
-    return {"kind": plan.kind.name.lower() if plan else None, "number": plan.number if plan else None}
+    return {"kind": plan.kind.name.lower() if plan else None,
+            "number": plan.number if plan else None}
 
 
 def shrunk(words: RecordWords, plan: Plan, good: Sequence[Target]) -> Shrunk:
-    """Shrinks the recording that was saved, in its place, and looks for a run that ends well if it has a place."""
+    """Shrinks the recording that was saved, in its place, and looks for a run that ends well if it
+    has a place."""
     log, book = words.targets(plan)
-    source = {option: value for option, _, value in (word.partition("=") for word in words.options) if option == "--input"}
+    source = {option: value for option, _, value in (word.partition("=") for word in words.options)
+              if option == "--input"}
     options = {**LogFile(log.path).head.settings(), **source}
-    return shrink(ShrinkInput(log.path, book.path, Program(words.elf), options, log, book, good=good))
+    return shrink(ShrinkInput(log.path, book.path, Program(words.elf), options, log,
+                              book, good=good))
 
 
 def goods_of(words: RecordWords) -> list[Target]:
     """The targets of the nearest run that ends well."""
     log, book = words.outputs
-    return [target(name + ".good", kind, [*words.read, log, book]) for name, kind in ((log, LOG), (book, TURNS))]
+    return [target(name + ".good", kind, [*words.read, log, book])
+            for name, kind in ((log, LOG), (book, TURNS))]
 
 
-def tell_difference(short: Shrunk, words: RecordWords, good: Sequence[Target], is_json: bool) -> Optional[dict[str, object]]:
+def tell_difference(short: Shrunk, words: RecordWords, good: Sequence[Target],
+                    is_json: bool) -> Optional[dict[str, object]]:
     if not short.nearest:
-        streams.say("no run that ends well is found near: one switch moved out of its window leads to no such run")
+        streams.say("no run that ends well is found near: "
+                    "one switch moved out of its window leads to no such run")
         return None
     try:
         with compared(good[0].path, words.outputs[0], words.elf, {}) as found:
@@ -158,14 +174,19 @@ def tell_difference(short: Shrunk, words: RecordWords, good: Sequence[Target], i
         return None
 
 
-def tell_json(search: TrialSearch, short: Optional[Shrunk], difference: Optional[dict[str, object]]) -> None:
-    plan, counts, numbers = search.found.plan if search.found else None, search.endings.counts, search.numbers
-    endings = [{"status": ending.status, "place": ending.place, "count": count.count, **fields_of(count.first),
-                "files": list(filter(os.path.exists, search.words.outputs_of(count.first))) if ending in search.kept else []}
-               for ending, count in in_order(counts)]
-    put_answer("seeds", **fields_of(plan), seed=plan.number if plan and plan.kind is Kind.SEED else None,
-               command=search.words.shown(plan) if plan else None, until=search.wanted.text if search.wanted else None,
-               status=search.wanted.statuses[0] if search.wanted and len(search.wanted.statuses) == 1 else None,
+def tell_json(search: TrialSearch, short: Optional[Shrunk],
+              difference: Optional[dict[str, object]]) -> None:
+    plan = search.found.plan if search.found else None
+    counts = search.endings.counts
+    numbers = search.numbers
+    endings = [{"status": ending.status, "place": ending.place,
+                "count": count.count, **fields_of(count.first),
+                "files": list(filter(os.path.exists, search.words.outputs_of(count.first)))
+                if ending in search.kept else []} for ending, count in in_order(counts)]
+    put_answer("seeds", **fields_of(plan), seed=plan.number if plan and plan.kind is Kind.SEED
+               else None, command=search.words.shown(plan) if plan else None,
+               until=search.wanted.text if search.wanted else None, status=search.wanted.statuses[0]
+               if search.wanted and len(search.wanted.statuses) == 1 else None,
                kinds=[name for name, kind in KINDS.items() if kind in search.kinds],
                **{"from": numbers.first}, to=numbers.last, part=numbers.part, parts=numbers.parts,
                tried=sum(count.count for count in counts.values()), endings=endings[:LONGEST],
@@ -173,8 +194,8 @@ def tell_json(search: TrialSearch, short: Optional[Shrunk], difference: Optional
 
 
 def find(search: TrialSearch, is_json: bool, shrinks: bool, good: Sequence[Target]) -> int:
-    """Searches, saves what was found, and tells how the runs ended: as text also those before a refusal. The status of a signal
-    that has ended the shrinking, or 0."""
+    """Searches, saves what was found, and tells how the runs ended: as text also those before a
+    refusal. The status of a signal that has ended the shrinking, or 0."""
     short = difference = None
     try:
         search.run()
@@ -204,14 +225,17 @@ def status_of(search: TrialSearch, names: Sequence[str], fails: bool) -> int:
     if search.wanted is None:
         more = len(search.endings.counts) - len(search.kept)
         if more:
-            streams.say(f"of {number(more)} endings nothing is kept: {number(MOST_KEPT)} others came before them")
+            streams.say(f"of {number(more)} endings nothing is kept: "
+                        f"{number(MOST_KEPT)} others came before them")
         return FOUND if fails and any(ending.is_bad for ending in search.endings.counts) else 0
-    streams.say(f"none of {', '.join(names)} from {search.numbers} ends with {search.wanted.said()}")
+    streams.say(f"none of {', '.join(names)} from {search.numbers} ends "
+                f"with {search.wanted.said()}")
     return 0 if fails else NOT_FOUND
 
 
 def numbers_of(low: str, high: str, part: str) -> Numbers:
-    first, last = whole(low, 0, LAST_NUMBER, "FROM"), whole(high, 0, LAST_NUMBER, "TO")
+    first = whole(low, 0, LAST_NUMBER, "FROM")
+    last = whole(high, 0, LAST_NUMBER, "TO")
     if last < first:
         raise CompanionError(f"TO is {last}, which is below FROM", REFUSED)
     at, slash, of = part.partition("/")
@@ -225,27 +249,33 @@ def until_of(options: Mapping[str, str]) -> Optional[Wanted]:
     """What ends the search, or None if all are wanted."""
     if "--all" in options:
         if "--until" in options:
-            raise CompanionError("with --all no status ends the search, so --until can't be given", REFUSED)
+            raise CompanionError("with --all no status ends the search, so --until can't be given",
+                                 REFUSED)
         return None
     return wanted_of(options.get("--until", str(FAULT)))
 
 
 def check_shrinks(asked: str, record: RecordWords, wanted: Optional[Wanted]) -> None:
-    """Refuses what can't be shrunk, before a run is made: `asked` is the option that asks for it."""
+    """Refuses what can't be shrunk, before a run is made: `asked` is the option that asks for
+    it."""
     if record.is_lean:
         raise CompanionError(f"{asked} needs BOOK, and with --lean there is none", REFUSED)
     if wanted is None or wanted.output or wanted.text in ("0", "exit:0"):
-        raise CompanionError(f"{asked} needs one run with a fault, a hang or an exit code: not --all, --until 0 or --until output:TEXT", REFUSED)
+        raise CompanionError(f"{asked} needs one run with a fault, a hang or an exit code: "
+                             "not --all, --until 0 or --until output:TEXT", REFUSED)
     if record.has_one_hart:
-        raise CompanionError(f"one hart has one order, so {asked} has nothing to shrink: --harts isn't given, or is 1", REFUSED)
+        raise CompanionError(f"one hart has one order, so {asked} has nothing to shrink: "
+                             "--harts isn't given, or is 1", REFUSED)
 
 
 def main(words: list[str]) -> int:
     own, rest = split(words)
     if "--" not in words:
-        raise CompanionError(f"the options of record stand behind --, with ELF LOG BOOK; the words are: {HELP.form}", REFUSED)
+        raise CompanionError("the options of record stand behind --, with ELF LOG BOOK; "
+                             f"the words are: {HELP.form}", REFUSED)
     (low, high), options = read_words(own, HELP.form, "--jobs")
-    numbers, wanted = numbers_of(low, high, options.get("--part", "1/1")), until_of(options)
+    numbers = numbers_of(low, high, options.get("--part", "1/1"))
+    wanted = until_of(options)
     record = RecordWords(rest, options.get("--all", ""))
     shrinks = "--compare" if "--compare" in options else "--shrink" if "--shrink" in options else ""
     if shrinks:
@@ -259,6 +289,8 @@ def main(words: list[str]) -> int:
     if record.folder:
         os.makedirs(record.folder, exist_ok=True)
     with contextlib.ExitStack() as opened:
-        search = TrialSearch(record, numbers, kinds, wanted, jobs, [opened.enter_context(folder) for folder in record.scratch()])
+        search = TrialSearch(record, numbers, kinds, wanted, jobs,
+                             [opened.enter_context(folder) for folder in record.scratch()])
         stopped = find(search, "--json" in options, bool(shrinks), good)
-    return stopped or status_of(search, [name for name, kind in KINDS.items() if kind in kinds], "--fail" in options)
+    return stopped or status_of(search, [name for name, kind in KINDS.items() if kind in kinds],
+                                "--fail" in options)

@@ -58,35 +58,45 @@ Pieces are left out, and what is left is made plain: digits 0, letters a.""", {
     },
     """The answer is the same on each machine. Ctrl-C, TERM and HUP end the search (130, 143, 129):
 the shortest that was found is saved. BOOK has to be LOG's, as `audit` says.""")
-INPUT_FORM = "shrink LOG ELF NEW --input FILE [--says TEXT] [--seconds N] [--names ELF] [--source DIR] [--json]"
-ORDER_FORM = "shrink LOG ELF BOOK NEWLOG NEWBOOK [--seconds N] [--output N:BYTE] [--names ELF] [--source DIR] [--order FILE] [--json] [-- WORD..]"
+INPUT_FORM = ("shrink LOG ELF NEW --input FILE [--says TEXT] [--seconds N] [--names ELF] [--source "
+              "DIR] [--json]")
+ORDER_FORM = ("shrink LOG ELF BOOK NEWLOG NEWBOOK [--seconds N] [--output N:BYTE] [--names ELF] "
+              "[--source DIR] [--order FILE] [--json] [-- WORD..]")
 LONGEST_SEARCH = 1 << 20    # seconds
-LONGEST_INPUT, TOO_LONG = 1 << 24, 5    # bytes; the status of a file that is too long
+LONGEST_INPUT = 1 << 24  # bytes
+TOO_LONG = 5  # the status of a file that is too long
 
 
 def recorded_options(log: str, words: Sequence[str]) -> dict[str, str]:
-    """The options by which a log was recorded. Those of the words have to be the same; only the log's input isn't in it."""
+    """The options by which a log was recorded. Those of the words have to be the same; only the
+    log's input isn't in it."""
     _, given = parse(words, RECORD_OPTIONS, range(1), "the options of record, behind --")
-    for name, why in (("--lean", "a lean recording keeps no BOOK, and without its turns nothing can be shrunk"),
+    for name, why in (("--lean", "a lean recording keeps no BOOK, "
+                       "and without its turns nothing can be shrunk"),
                       ("--seed", "BOOK has the turns, so --seed can't be given")):
         if name in given:
             raise CompanionError(why, REFUSED)
     settings = open_log(log).head.settings()
     for name, value in given.items():
         if name != "--input" and decimal(value) != settings.get(name):
-            raise CompanionError(f"{name} is {settings.get(name, 'nothing')} in LOG, not {value}", REFUSED)
+            raise CompanionError(f"{name} is {settings.get(name, 'nothing')} in LOG, not {value}",
+                                 REFUSED)
     return {**settings, **({"--input": given["--input"]} if "--input" in given else {})}
 
 
 def check(log: str, elf: str, book: str, options: Mapping[str, str], has_byte: bool) -> None:
     if options["--harts"] == "1":
-        raise CompanionError("LOG is of one hart, which has one order: there is nothing to shrink; NEW --input FILE shrinks its input", REFUSED)
+        raise CompanionError("LOG is of one hart, which has one order: there is nothing to shrink; "
+                             "NEW --input FILE shrinks its input", REFUSED)
     if os.path.exists(book) and os.path.samefile(log, book):
-        raise CompanionError("LOG is given for BOOK: a lean recording keeps no BOOK, and can't be shrunk", REFUSED)
+        raise CompanionError("LOG is given for BOOK: a lean recording keeps no BOOK, "
+                             "and can't be shrunk", REFUSED)
     check_book(log, elf, book, [f"--input={options['--input']}"] if "--input" in options else [])
     ends = load_log(log).ends
-    if not (has_byte or exit_code(ends) or any(is_fault(end.reason) or end.reason == "limit" for end in ends.values())):
-        raise CompanionError("the run of LOG ended well; --output N:BYTE asks for a byte of its output that is wrong", REFUSED)
+    if not (has_byte or exit_code(ends)
+            or any(is_fault(end.reason) or end.reason == "limit" for end in ends.values())):
+        raise CompanionError("the run of LOG ended well; "
+                             "--output N:BYTE asks for a byte of its output that is wrong", REFUSED)
 
 
 def shrink_order(words: list[str]) -> tuple[Mapping[str, str], Union[Shrunk, ShrunkInput]]:
@@ -97,23 +107,28 @@ def shrink_order(words: list[str]) -> tuple[Mapping[str, str], Union[Shrunk, Shr
     read = [log, elf_name, book, options.get("--input", "")]
     check_regular(*read)
     targets = target(new_log, LOG, read), target(new_book, TURNS, [*read, new_log])
-    order = targets_of(given["--order"], options.get("--input", ""), [*read, new_log, new_book]) if "--order" in given else None
+    order = (targets_of(given["--order"], options.get("--input", ""), [*read, new_log, new_book])
+             if "--order" in given else None)
     check(log, elf_name, book, options, byte is not None)
     program = Program(elf_name, given.get("--names", ""), source_folders(given))
-    return given, shrink(ShrinkInput(log, book, program, options, *targets, byte, seconds_of(given), order=order))
+    return given, shrink(ShrinkInput(log, book, program, options, *targets, byte,
+                                     seconds_of(given), order=order))
 
 
 def shrink_its_input(words: list[str]) -> tuple[Mapping[str, str], Union[Shrunk, ShrunkInput]]:
     (log, elf_name, new), given = read_words(words, INPUT_FORM)
-    source, options = given["--input"], recorded_options(log, [])
+    source = given["--input"]
+    options = recorded_options(log, [])
     if options["--harts"] != "1":
-        raise CompanionError("LOG is of several harts: shrink its order first; of one hart alone the input is shrunk", REFUSED)
+        raise CompanionError("LOG is of several harts: shrink its order first; "
+                             "of one hart alone the input is shrunk", REFUSED)
     check_regular(log, elf_name, source)
     place = target(new, INPUT, [log, elf_name, source, given.get("--names", "")])
     check_program(log, elf_name)
     data = input_of(source)
     program = Program(elf_name, given.get("--names", ""), source_folders(given))
-    return given, shrink_input(Asked(log, program, options, source, data, place, given.get("--says", ""), seconds_of(given)))
+    return given, shrink_input(Asked(log, program, options, source, data, place,
+                                     given.get("--says", ""), seconds_of(given)))
 
 
 def input_of(name: str) -> bytes:

@@ -51,7 +51,8 @@ A run that ends well then shows that the row was needed for the crash, not that 
     },
     """LOG has to hold its whole run, of no more than 4 million rows. Calls, jumps and atomics can't
 be changed, nor can rows of a program whose code names all registers.""")
-MOST_ROWS, LONGEST_INTERVAL = 4000000, 10000000
+MOST_ROWS = 4000000
+LONGEST_INTERVAL = 10000000
 MORE_ROWS = 64              # at most so many instructions take the place of one
 MOST_TESTS = 3              # registers by which a hart is told from the others
 ACCESS = re.compile(rb"(?:load|store) \w{8}=\w{8}")
@@ -75,7 +76,8 @@ class Ended(NamedTuple):
 
 @dataclass(frozen=True)
 class Question:
-    """The row that is asked of, what is done there, and how many executions of its code its hart has."""
+    """The row that is asked of, what is done there, and how many executions of its code its hart
+    has."""
     at: At
     done: Execution
     times: int
@@ -105,16 +107,19 @@ def executions(log: Log, elf_name: str, code: Instruction) -> Dict[int, List[int
 
 def check_action(code: Instruction, given: Mapping[str, str]) -> None:
     """Refuses what can't be done otherwise."""
-    wanted = {"--skip": code.kind == STORE, "--turn": code.kind == BRANCH,
-              "--set": bool(code.rd) and code.kind not in (BRANCH, JUMP, CALL, AMO, STORE) and code.word & 127 != OP_AUIPC}
-    said = {"--skip": "a store", "--turn": "a branch", "--set": "a row that puts a value into a register, and is no jump, call, atomic or auipc"}
+    wanted = {"--skip": code.kind == STORE, "--turn": code.kind == BRANCH, "--set": bool(code.rd)
+              and code.kind not in (BRANCH, JUMP, CALL, AMO, STORE) and code.word & 127 != OP_AUIPC}
+    said = {"--skip": "a store", "--turn": "a branch", "--set": "a row that puts a value into a "
+            "register, and is no jump, call, atomic or auipc"}
     for option in ACTIONS:
         if option in given and not wanted[option]:
-            raise CompanionError(f"{option} is for {said[option]}, and the row is {code.text}", REFUSED)
+            raise CompanionError(f"{option} is for {said[option]}, and the row is {code.text}",
+                                 REFUSED)
 
 
 def tests_of(asked: Asked, at: At, others: Sequence[At]) -> Tuple[Tuple[int, int], ...]:
-    """Registers with the values by which a hart's execution is told from those of other harts: sp first, which mostly does."""
+    """Registers with the values by which a hart's execution is told from those of other harts: sp
+    first, which mostly does."""
     if not others:
         return ()
     mine = state_of(asked, at.hart, at.count).registers
@@ -133,22 +138,27 @@ def question_of(found: Opened, log: Log, at: At, given: Mapping[str, str]) -> Qu
     value = value_of(found.named, given["--set"]) if "--set" in given else None
     counts = executions(log, found.elf.name, code)
     number_of_it = counts[at.hart].index(at.count) + 1
-    others = [At(hart, its[number_of_it - 1]) for hart, its in counts.items() if hart != at.hart and len(its) >= number_of_it]
+    others = [At(hart, its[number_of_it - 1])
+              for hart, its in counts.items() if hart != at.hart and len(its) >= number_of_it]
     tests = tests_of(Asked(log, found.elf, found.named, found.places), at, others)
     return Question(at, Execution(code, number_of_it, tests, value), len(counts[at.hart]))
 
 
 def registers_for(log: Log, found: Opened) -> List[int]:
-    """Registers that the program never names: the first counts, so it has to be 0 in the beginning."""
+    """Registers that the program never names: the first counts, so it has to be 0 in the
+    beginning."""
     free = unnamed_registers(found.elf)
-    counters = [each for each in free if not any(one.registers[each] for one in log.first_intervals().values())]
+    counters = [each for each in free
+                if not any(one.registers[each] for one in log.first_intervals().values())]
     if not counters:
-        raise CompanionError("the program's code names each register: none is free to count in", REFUSED)
+        raise CompanionError("the program's code names each register: none is free to count in",
+                             REFUSED)
     return [counters[0], *(each for each in free if each != counters[0])]
 
 
 def options_of(found: Opened, log: Log, times: int, source: str) -> Dict[str, str]:
-    """The settings of LOG. What the new code takes more may neither end an interval nor come to the limit."""
+    """The settings of LOG. What the new code takes more may neither end an interval nor come to the
+    limit."""
     options = {**found.source.head.settings(), **({"--input": source} if source else {})}
     options["--limit"] = str(int(options["--limit"]) + MORE_ROWS * times)
     if log.harts == 1 or not any(interval.reason == "length" for interval in log.intervals):
@@ -158,10 +168,12 @@ def options_of(found: Opened, log: Log, times: int, source: str) -> Dict[str, st
 
 def record(quick: Quick, data: bytes, options: Mapping[str, str], book: str) -> Tuple[Log, str]:
     """A recording of a program by BOOK's turns, and the program's name."""
-    elf, log, new_book, said, err = (os.path.join(quick.folder, name) for name in ("elf", "log", "book", "said", "err"))
+    elf, log, new_book, said, err = (os.path.join(quick.folder, name)
+                                     for name in ("elf", "log", "book", "said", "err"))
     Path(elf).write_bytes(data)
     words = [f"{name}={value}" for name, value in options.items()]
-    status = quick.start(said, err, "record", *words, "--", elf, log, new_book, schedule=f"book:{book}").wait()
+    status = quick.start(said, err, "record", *words, "--", elf, log, new_book,
+                         schedule=f"book:{book}").wait()
     if status not in ENDS:
         raise refusal(err, status)
     return load_log(log), elf
@@ -180,12 +192,15 @@ class Turns:
     """The lines with which the turns of each hart ended, in a log that has them all."""
 
     def __init__(self, log: Log, elf_name: str, turns: bytes) -> None:
-        self.log, self.turns = log, turns
-        self.lines = {hart: turn_lines(log, elf_name, hart, turns.count(bytes([hart]))) for hart in range(log.harts)}
+        self.log = log
+        self.turns = turns
+        self.lines = {hart: turn_lines(log, elf_name, hart, turns.count(bytes([hart])))
+                      for hart in range(log.harts)}
 
     def before(self, at: At) -> int:
         """How many turns of all harts ended before the one that a row is in."""
-        done = sum(1 for line in self.lines[at.hart] if (end_count(line) <= at.count if is_end(line) else count_of(line) < at.count))
+        done = sum(1 for line in self.lines[at.hart]
+                   if (end_count(line) <= at.count if is_end(line) else count_of(line) < at.count))
         place = -1
         for _ in range(done + 1):
             place = self.turns.find(bytes([at.hart]), place + 1)
@@ -194,10 +209,12 @@ class Turns:
     def accesses(self, end: int) -> Iterator[List[Tuple[bytes, ...]]]:
         """Of each hart what its turns accessed, up to a turn of all harts'."""
         for hart, lines in self.lines.items():
-            yield [tuple(ACCESS.findall(line)) for line in lines[:self.turns[:end].count(bytes([hart]))] if not is_end(line)]
+            yield [tuple(ACCESS.findall(line))
+                   for line in lines[:self.turns[:end].count(bytes([hart]))] if not is_end(line)]
 
     def taken(self, hart: int) -> int:
-        """How many turns a hart took, but for those that ended with an interval: the new run has other intervals."""
+        """How many turns a hart took, but for those that ended with an interval: the new run has
+        other intervals."""
         return sum(1 for line in self.lines[hart] if not is_end(line))
 
     def ended(self) -> Ended:
@@ -206,7 +223,8 @@ class Turns:
             if is_fault(end.reason):
                 return Ended(end.reason, hart, pc_of(self.lines[hart][-1]), self.taken(hart))
         limited = [hart for hart, end in sorted(self.log.ends.items()) if end.reason == "limit"]
-        return Ended("limit", limited[0], 0, self.taken(limited[0])) if limited else Ended("", 0, 0, 0)
+        return (Ended("limit", limited[0], 0, self.taken(limited[0])) if limited
+                else Ended("", 0, 0, 0))
 
 
 def compare(old: Turns, new: Turns, at: At) -> Compared:
@@ -215,7 +233,8 @@ def compare(old: Turns, new: Turns, at: At) -> Compared:
     if old.log.harts > 1 and new.turns[:end] != order:
         return Compared(False, end)
     for hart, mine in enumerate(old.accesses(end)):
-        its = [tuple(ACCESS.findall(line)) for line in new.lines[hart] if not is_end(line)][:len(mine)]
+        its = [tuple(ACCESS.findall(line))
+               for line in new.lines[hart] if not is_end(line)][:len(mine)]
         if mine != its:
             return Compared(False, end)
     return Compared(True, end)
@@ -234,23 +253,27 @@ class Answer(NamedTuple):
         return "with the other way at" if done.code.kind == BRANCH else "without the store of"
 
     def lines(self, places: Places) -> List[str]:
-        asked, done = self.question, self.question.done
-        first = (f"{self.what()} {asked.at.hart}:{asked.at.count} {places.where(done.code.pc)}, execution {number(done.number)} of "
-                 f"{number(asked.times)}")
+        asked = self.question
+        done = self.question.done
+        first = (f"{self.what()} {asked.at.hart}:{asked.at.count} {places.where(done.code.pc)}, "
+                 f"execution {number(done.number)} of {number(asked.times)}")
         if not self.compared.is_sound:
             return [first, "UNSOUND: the runs differ before it, so how it ends says nothing"]
-        return [first, f"before it the accesses of all harts are those of LOG, in {counted(self.compared.turns, 'turn')}",
-                f"LOG: {self.was.line(places)}", f"now: {self.now.line(places)}"]
+        return [first, "before it the accesses of all harts are those of LOG, "
+                f"in {counted(self.compared.turns, 'turn')}", f"LOG: {self.was.line(places)}",
+                f"now: {self.now.line(places)}"]
 
     def json(self) -> Dict[str, Any]:
         asked = self.question
-        return {"hart": asked.at.hart, "count": asked.at.count, "execution": asked.done.number, "executions": asked.times,
-                "is_sound": self.compared.is_sound, "turns": self.compared.turns,
-                "was": said(self.was), "now": said(self.now) if self.compared.is_sound else None}
+        return {"hart": asked.at.hart, "count": asked.at.count, "execution": asked.done.number,
+                "executions": asked.times, "is_sound": self.compared.is_sound,
+                "turns": self.compared.turns, "was": said(self.was),
+                "now": said(self.now) if self.compared.is_sound else None}
 
 
 def said(end: Ended) -> Optional[Dict[str, Any]]:
-    return {"reason": end.reason, "hart": end.hart, "address": f"{end.pc:08x}", "turns": end.turns} if end.reason else None
+    return ({"reason": end.reason, "hart": end.hart, "address": f"{end.pc:08x}", "turns": end.turns}
+            if end.reason else None)
 
 
 def answer(found: Opened, log: Log, book: str, at: At, given: Mapping[str, str]) -> Answer:
@@ -259,9 +282,11 @@ def answer(found: Opened, log: Log, book: str, at: At, given: Mapping[str, str])
     data = patched(found.elf, question.done.code, new_code.words)
     old = Turns(log, found.elf.name, Path(book).read_bytes())
     with Scratch(memory_folder()) as folder, Quick(folder) as quick:
-        made, elf = record(quick, data, options_of(found, log, question.times, given.get("--input", "")), book)
+        made, elf = record(quick, data,
+                           options_of(found, log, question.times, given.get("--input", "")), book)
         new = Turns(made, elf, Path(quick.folder, "book").read_bytes())
-        compared, now = compare(old, new, at), new.ended()
+        compared = compare(old, new, at)
+        now = new.ended()
     if PLACE <= now.pc < PLACE + 4 * len(new_code.words):       # it is the row
         now = now._replace(pc=question.done.code.pc)
     return Answer(question, compared, old.ended(), now)
@@ -270,13 +295,16 @@ def answer(found: Opened, log: Log, book: str, at: At, given: Mapping[str, str])
 def main(words: list[str]) -> int:
     (log_name, elf_name, book, row), given = read_words(words, HELP.form)
     if sum(option in given for option in ACTIONS) != 1:
-        raise CompanionError(f"one of {', '.join(ACTIONS)} has to be given; the words are: {HELP.form}", REFUSED)
-    at, source = asked_row(row, "the row"), given.get("--input", "")
+        raise CompanionError(f"one of {', '.join(ACTIONS)} has to be given; "
+                             f"the words are: {HELP.form}", REFUSED)
+    at = asked_row(row, "the row")
+    source = given.get("--input", "")
     check_regular(log_name, elf_name, book, source)
     with opened(log_name, elf_name, given) as found:
         log = found.log(MOST_ROWS)
         if log.unread or log.dropped:
-            raise CompanionError(f"LOG has to hold its whole run, of up to {MOST_ROWS:,} rows: a larger --log-size of `again` keeps all", REFUSED)
+            raise CompanionError(f"LOG has to hold its whole run, of up to {MOST_ROWS:,} rows: "
+                                 "a larger --log-size of `again` keeps all", REFUSED)
         check_book(log_name, elf_name, book, [f"--input={source}"] if source else [])
         told = answer(found, log, book, at, given)
         if "--json" in given:

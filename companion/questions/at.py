@@ -32,7 +32,8 @@ line begins at several places, all are told.""", {
     """What gdb or the rows don't tell is told as <optimized out>, or so. Rows are in the order of
 `joint`: of a word that this hart doesn't access, other legal orders can have other values. It needs
 gdb (gdb-multiarch, or what $ZELKUMA_GDB names).""")
-TOLD, MOST_TOLD = 100, 1000000      # passes; values
+TOLD = 100  # passes
+MOST_TOLD = 1000000  # values
 FILE_LINE = 2                       # which name it is
 
 
@@ -48,22 +49,28 @@ class Entry:
 class Passes:
     """The latest passes of a line.
 
-    total    how many there are; met: at how many of them the condition isn't 0, untold: or can't be told
+    total    how many there are; met: at how many of them the condition isn't 0, untold: or can't be
+             told
     told     the latest that met it"""
 
-    def __init__(self, asked: Asked, line: str, code: Compiled, has_condition: bool, most: int) -> None:
+    def __init__(self, asked: Asked, line: str, code: Compiled,
+                 has_condition: bool, most: int) -> None:
         """The first expression is the condition, if there is one."""
-        self.asked, self.line, self.code = asked, line, code
+        self.asked = asked
+        self.line = line
+        self.code = code
         self.expressions = code.expressions[has_condition:]
         self.conditions = code.expressions[:has_condition]
         self.values = Values(asked, code.expressions)
-        self.pattern = re.compile(rb"\n(\d+) (\d+) (%s) " % b"|".join(b"%08x" % place for place in code.places))
+        self.pattern = re.compile(rb"\n(\d+) (\d+) (%s) " % b"|".join(b"%08x" % place
+                                                                      for place in code.places))
         self.total = self.met = self.untold = 0
         self.told: Deque[Entry] = deque(maxlen=most)
 
     def take(self, text: bytes) -> None:
         self.values.take(text)
-        found = [Pass(each[1], int(each[2]), int(each[3], 16), each.start()) for each in self.pattern.finditer(text)]
+        found = [Pass(each[1], int(each[2]), int(each[3], 16), each.start())
+                 for each in self.pattern.finditer(text)]
         self.total += len(found)
         if not self.conditions:
             self.met += len(found)
@@ -72,7 +79,8 @@ class Passes:
             self.values.go_to(one)
             if all(self.is_met(each) for each in self.conditions):
                 self.met += bool(self.conditions)
-                self.told.append(Entry(int(one.hart), one.count, one.pc, [self.values.text(each) for each in self.expressions]))
+                self.told.append(Entry(int(one.hart), one.count, one.pc,
+                                       [self.values.text(each) for each in self.expressions]))
 
     def is_met(self, condition: Expression) -> bool:
         try:
@@ -84,10 +92,12 @@ class Passes:
     def slid(self) -> int:
         """The line that is told in place of one without code, or 0."""
         innermost = self.asked.places.innermost(self.code.places[0])
-        return innermost.line if innermost.line and innermost.line != int(self.line.rpartition(":")[2]) else 0
+        return (innermost.line
+                if innermost.line and innermost.line != int(self.line.rpartition(":")[2]) else 0)
 
 
-def passes_of(asked: Asked, line: str, texts: Sequence[str], condition: str = "", most: int = TOLD) -> Passes:
+def passes_of(asked: Asked, line: str, texts: Sequence[str], condition: str = "",
+              most: int = TOLD) -> Passes:
     code = compiled(asked.named, line, [condition] * bool(condition) + list(texts))
     if condition and code.expressions[0].error:
         raise CompanionError(f"--if {clean(condition)}: {code.expressions[0].error}", REFUSED)
@@ -99,12 +109,15 @@ def passes_of(asked: Asked, line: str, texts: Sequence[str], condition: str = ""
 
 
 def report(found: Passes) -> List[str]:
-    asked, places = found.asked, found.code.places
+    asked = found.asked
+    places = found.code.places
     asked.places.fetch(places)
-    of = f", {number(found.met)} of them with {clean(found.conditions[0].text)}" if found.conditions else ""
+    of = (f", {number(found.met)} of them with {clean(found.conditions[0].text)}"
+          if found.conditions else "")
     head = f"AT {found.line}: {number(found.total)} pass{'' if found.total == 1 else 'es'}{of}"
     rows = [[f"{entry.hart}:{entry.count}", *([f"{entry.pc:08x}"] if len(places) > 1 else []),
-             *(f"{clean(each.text)} = {value}" for each, value in zip(found.expressions, entry.values))] for entry in found.told]
+             *(f"{clean(each.text)} = {value}"
+               for each, value in zip(found.expressions, entry.values))] for entry in found.told]
     return asked.report(head, [(entry.hart, entry.count) for entry in found.told], found.met,
                         [*("  " + line for line in of_places(found)), *columns(rows)])
 
@@ -114,18 +127,20 @@ def of_places(found: Passes) -> Iterator[str]:
     for place in found.code.places:
         yield f"before {place:08x} {found.asked.places.where(place)}"
     if found.slid():
-        yield f"Line {found.line.rpartition(':')[2]} has no code at which gdb would stop: these are passes of line {found.slid()}."
+        yield (f"Line {found.line.rpartition(':')[2]} has no code at which gdb would stop: "
+               f"these are passes of line {found.slid()}.")
     if found.untold:
         yield f"At {counted(found.untold, 'more pass')} the condition can't be told."
 
 
 def at_answer(found: Passes) -> dict[str, Any]:
     asked = found.asked
-    return {"line": found.line, "places": [place_of(asked.places, place) for place in found.code.places], "slid": found.slid(),
-            "passes": found.total, "met": found.met, "untold": found.untold, "left_out": asked.left_out(),
-            "expressions": [each.text for each in found.expressions],
-            "entries": [{"hart": entry.hart, "count": entry.count, "address": f"{entry.pc:08x}", "values": entry.values}
-                        for entry in list(found.told)[-LONGEST:]]}
+    return {"line": found.line,
+            "places": [place_of(asked.places, place) for place in found.code.places],
+            "slid": found.slid(), "passes": found.total, "met": found.met, "untold": found.untold,
+            "left_out": asked.left_out(), "expressions": [each.text for each in found.expressions],
+            "entries": [{"hart": entry.hart, "count": entry.count, "address": f"{entry.pc:08x}",
+                         "values": entry.values} for entry in list(found.told)[-LONGEST:]]}
 
 
 def main(words: list[str]) -> int:

@@ -5,7 +5,8 @@ import operator
 import re
 from collections import deque
 from dataclasses import dataclass, field
-from typing import Any, Callable, Deque, Dict, Iterator, List, Mapping, NamedTuple, Optional, Sequence, Union
+from typing import (Any, Callable, Deque, Dict, Iterator, List, Mapping, NamedTuple,
+                    Optional, Sequence, Union)
 
 from ..call.errors import REFUSED, CompanionError
 from ..call.help import Help
@@ -36,18 +37,26 @@ and from where.""",
     """Arguments have names and types if gdb tells them (gdb-multiarch, or what $ZELKUMA_GDB names),
 else they are a0 to a7. An inlined call has neither arguments nor a result. How long a call ran is
 in instructions of its hart.""")
-TOLD, MOST_TOLD, MOST_FRAMES = 100, 1000000, 3
+TOLD = 100
+MOST_TOLD = 1000000
+MOST_FRAMES = 3
 WHERE = re.compile(r"\s*(\w+)\s*(==|!=|<=|>=|<|>)\s*(-?\w+)\s*")
-COMPARE: dict[str, Callable[[int, int], bool]] = {"==": operator.eq, "!=": operator.ne, "<": operator.lt, "<=": operator.le,
+COMPARE: dict[str, Callable[[int, int], bool]] = {"==": operator.eq, "!=": operator.ne,
+                                                  "<": operator.lt, "<=": operator.le,
                                                   ">": operator.gt, ">=": operator.ge}
-RESULT, RESULTS = "result", ("a0", "a1")        # the name of a result in --where, and the registers that have it
-MOST_OPEN = 1000000         # calls that haven't returned are kept of a hart: of more, as of a recursion without an end, the inner half
+# The name of a result in --where, and the registers that have it
+RESULT = "result"
+RESULTS = ("a0", "a1")
+# Calls that haven't returned are kept of a hart: of more, as of a recursion without an end, the
+# inner half
+MOST_OPEN = 1000000
 DECIMAL = "int", "enum", "bool"             # types whose values are told in decimal
 
 
 @dataclass
 class Call:
-    """A call: the place of its first row, the address from which it came, 0 if that isn't known, and whether by a jump.
+    """A call: the place of its first row, the address from which it came, 0 if that isn't known,
+    and whether by a jump.
 
     depth    how deep its frame is
     values   what each parameter's registers held, None if nothing tells it
@@ -83,30 +92,39 @@ class Where:
 
     def __init__(self, text: str, function: Function) -> None:
         told = WHERE.fullmatch(text)
-        names = sorted({each.name for begin in function.begins for each in begin.parameters}) + [RESULT]
+        names = (sorted({each.name for begin in function.begins for each in begin.parameters})
+                 + [RESULT])
         if not told:
-            raise CompanionError(f"--where: {clean(text)!r} is no condition as 'ARG==VALUE'", REFUSED)
-        self.name, self.compare = told[1], COMPARE[told[2]]
+            raise CompanionError(f"--where: {clean(text)!r} is no condition as 'ARG==VALUE'",
+                                 REFUSED)
+        self.name = told[1]
+        self.compare = COMPARE[told[2]]
         if all(begin.inlined for begin in function.begins):
-            raise CompanionError(f"--where: {function.name} is inlined everywhere, so its calls have neither arguments nor a result", REFUSED)
+            raise CompanionError(f"--where: {function.name} is inlined everywhere, "
+                                 "so its calls have neither arguments nor a result", REFUSED)
         if self.name not in names:
-            raise CompanionError(f"--where: {function.name} has no {clean(self.name)}; it has {', '.join(names)}", REFUSED)
-        self.value, self.text = number_of(told[3]), told[3]
+            raise CompanionError(f"--where: {function.name} has no {clean(self.name)}; "
+                                 f"it has {', '.join(names)}", REFUSED)
+        self.value = number_of(told[3])
+        self.text = told[3]
 
     def takes(self, call: Call) -> bool:
         """Whether a call has such an argument, or such a result."""
         if self.name == RESULT:
             return self.fits(call.result, call.begin.result or PLAIN)
-        return any(self.fits(value, each.type) for each, value in zip(call.begin.parameters, call.values) if each.name == self.name)
+        return any(self.fits(value, each.type) for each, value
+                   in zip(call.begin.parameters, call.values) if each.name == self.name)
 
     def fits(self, value: Optional[int], kind: Type) -> bool:
         is_decimal = kind["kind"] in DECIMAL and self.text.isdigit() and self.text[0] != "0"
         wanted = int(self.text) if is_decimal else self.value
-        return value is not None and self.compare(signed(kind, value, 64 if 4 < kind["size"] <= 8 else 32), wanted)
+        return (value is not None
+                and self.compare(signed(kind, value, 64 if 4 < kind["size"] <= 8 else 32), wanted))
 
 
 def number_of(text: str) -> int:
-    """A number of --where: decimal, or hexadecimal of eight digits or behind 0x. (Eight digits are decimal, too, for what is told so.)"""
+    """A number of --where: decimal, or hexadecimal of eight digits or behind 0x. (Eight digits are
+    decimal, too, for what is told so.)"""
     if (found := ADDRESS.fullmatch(text)):
         return int(found[1] or found[2], 16)
     if not re.fullmatch(r"-?\d{1,20}", text):
@@ -115,7 +133,8 @@ def number_of(text: str) -> int:
 
 
 class Arrival(NamedTuple):
-    """A call's first row: its place in the chunk, and the row of its hart before it, if there is one."""
+    """A call's first row: its place in the chunk, and the row of its hart before it, if there is
+    one."""
     place: int
     begin: Begin
     source: Optional[Instruction]
@@ -135,13 +154,18 @@ class Calls:
     total, told   how many there are, and those that are told
     open          {hart: its calls that haven't returned, innermost last}
     last          {hart: its last row}
-    asks          (place, call, whether of its result): whose registers are looked for before the text there is forgotten
+    asks          (place, call, whether of its result): whose registers are looked for before the
+                  text there is forgotten
     waiting       chunks that wait, and waiting_calls: how many calls they have"""
 
     def __init__(self, asked: Asked, function: Function, most: int, where: Optional[Where]) -> None:
-        self.asked, self.function, self.where = asked, function, where
-        self.begins = {b" %08x " % begin.address: begin for begin in function.begins if not is_part(asked, function, begin)}
-        self.stacks = asked.stacks(begin.address for begin in self.begins.values() if not begin.inlined)
+        self.asked = asked
+        self.function = function
+        self.where = where
+        self.begins = {b" %08x " % begin.address: begin
+                       for begin in function.begins if not is_part(asked, function, begin)}
+        self.stacks = asked.stacks(begin.address
+                                   for begin in self.begins.values() if not begin.inlined)
         self.window = Window()
         self.registers = Registers(asked.log, self.window, registers_of(function))
         self.open: dict[bytes, list[Call]] = {}
@@ -151,7 +175,8 @@ class Calls:
         self.asks: Deque[tuple[int, Call, bool]] = deque()
         self.waiting: Deque[WaitingChunk] = deque()
         self.total = self.waiting_calls = 0
-        self.is_passing = False                 # whether the chunk before the first that waits was passed
+        # Whether the chunk before the first that waits was passed
+        self.is_passing = False
 
     @property
     def told(self) -> list[Call]:
@@ -161,10 +186,12 @@ class Calls:
     def take(self, text: bytes) -> None:
         """While later ones may have all calls that are told, only its calls are counted."""
         self.window.add(text)
-        base, last = self.window.begins[-1], dict(self.last)
+        base = self.window.begins[-1]
+        last = dict(self.last)
         self.waiting.append(WaitingChunk(text, base, list(self.arrivals(text)), last))
         self.waiting_calls += len(self.waiting[-1].arrivals)
-        while self.waiting and (self.where or self.is_passed() or self.window.end - self.waiting[0].base > self.window.kept // 2):
+        while self.waiting and (self.where or self.is_passed()
+                                or self.window.end - self.waiting[0].base > self.window.kept // 2):
             self.take_waiting()
         while self.window.surplus():
             self.answer(self.window.surplus())
@@ -177,12 +204,16 @@ class Calls:
         self.answer(self.window.end + 1)
 
     def is_passed(self) -> bool:
-        """Whether the first chunk that waits has no call that is told: those behind it have enough."""
-        return not self.where and self.waiting_calls - len(self.waiting[0].arrivals) >= (self.kept.maxlen or 0)
+        """Whether the first chunk that waits has no call that is told: those behind it have
+        enough."""
+        return (not self.where
+                and self.waiting_calls - len(self.waiting[0].arrivals) >= (self.kept.maxlen or 0))
 
     def take_waiting(self) -> None:
-        """Takes the first of the chunks that wait. If none of its calls is told, they are only counted."""
-        is_passed, first = self.is_passed(), self.waiting.popleft()
+        """Takes the first of the chunks that wait. If none of its calls is told, they are only
+        counted."""
+        is_passed = self.is_passed()
+        first = self.waiting.popleft()
         self.waiting_calls -= len(first.arrivals)
         if is_passed:
             self.total += len(first.arrivals)
@@ -217,20 +248,24 @@ class Calls:
         return self.sources[key]
 
     def is_call(self, begin: Begin, source: Instruction) -> bool:
-        """Whether a function's first row behind another one is a call: its own code can lead there too."""
+        """Whether a function's first row behind another one is a call: its own code can lead there
+        too."""
         if begin.inlined:
             own, other = (self.asked.places.frames(pc) for pc in (begin.address, source.pc))
             return inlined_call(own, begin) != inlined_call(other, begin)
-        return source.call or source.kind == JUMP and not source.ret and self.stacks.entries.are_led_to(source.pc, begin.address)
+        return (source.call or source.kind == JUMP and not source.ret
+                and self.stacks.entries.are_led_to(source.pc, begin.address))
 
     def follow(self, first: WaitingChunk) -> None:
-        """Takes the calls and the returns of a chunk. How these calls are nested is known without what was passed before."""
+        """Takes the calls and the returns of a chunk. How these calls are nested is known without
+        what was passed before."""
         if self.is_passing:
             self.stacks.begin_behind(first.last)
             self.open.clear()
             self.is_passing = False
         self.stacks.take(first.text)
-        chunk, base = self.stacks.chunk, first.base
+        chunk = self.stacks.chunk
+        base = first.base
         moves = {move.place: move for move in chunk.moves()}
         calls = {each.place: each for each in first.arrivals}
         for place in sorted({*moves, *calls}):
@@ -242,8 +277,11 @@ class Calls:
 
     def call(self, chunk: Chunk, base: int, arrival: Arrival) -> None:
         head = chunk.text[arrival.place + 1:arrival.place + HEAD]
-        hart, source, begin = hart_of(head), arrival.source, arrival.begin
-        call = Call(hart, count_of(head), base + arrival.place, begin, source.pc if source else 0, bool(source and not source.call))
+        hart = hart_of(head)
+        source = arrival.source
+        begin = arrival.begin
+        call = Call(hart, count_of(head), base + arrival.place, begin, source.pc if source else 0,
+                    bool(source and not source.call))
         if begin.inlined:
             if not self.where:
                 self.keep(call)
@@ -268,14 +306,17 @@ class Calls:
         self.kept.append(call)
 
     def back(self, move: Move, base: int) -> None:
-        """A return: the call that it returns from has ended, and so have the functions that were jumped to from there. Calls in
-        these that didn't return, as behind a longjmp, never will."""
-        calls, depth, ended = self.open.get(move.hart, []), move.behind[2], []
+        """A return: the call that it returns from has ended, and so have the functions that were
+        jumped to from there. Calls in these that didn't return, as behind a longjmp, never will."""
+        calls = self.open.get(move.hart, [])
+        depth = move.behind[2]
+        ended = []
         while move.behind is not move.before and calls and calls[-1].depth > depth:
             ended.append(calls.pop())
         for call in reversed(ended):
             if call.depth == depth + 1 or call.jumped and call.depth == depth + 2:
-                call.rows, call.end = move.ic - call.count, move.ic
+                call.rows = move.ic - call.count
+                call.end = move.ic
                 self.result(call, base + move.place)
 
     def result(self, call: Call, place: int) -> None:
@@ -295,11 +336,13 @@ class Calls:
                 (self.take_result if is_result else self.take_arguments)(call, place)
 
     def take_arguments(self, call: Call, place: int) -> None:
-        call.values = [self.value_of(each.registers, call.hart, place) for each in call.begin.parameters]
+        call.values = [self.value_of(each.registers, call.hart, place)
+                       for each in call.begin.parameters]
 
     def take_result(self, call: Call, place: int) -> None:
         if call.begin.result:
-            call.result = self.value_of(RESULTS[:2 if PAIR >= call.begin.result["size"] > WORD else 1], call.hart, place)
+            call.result = self.value_of(
+                RESULTS[:2 if PAIR >= call.begin.result["size"] > WORD else 1], call.hart, place)
 
     def value_of(self, names: Sequence[str], hart: bytes, place: int) -> Optional[int]:
         values = [self.registers.value(hart, name.encode(), place) for name in names]
@@ -310,17 +353,21 @@ class Calls:
 
 def registers_of(function: Function) -> set[str]:
     """Those that have its arguments or its result."""
-    return {name for begin in function.begins for each in begin.parameters for name in each.registers} | set(RESULTS)
+    return {name for begin in function.begins for each in begin.parameters
+            for name in each.registers} | set(RESULTS)
 
 
 def is_part(asked: Asked, function: Function, begin: Begin) -> bool:
-    """Whether inlined code is but a part of the function's own: what a compiler took out of it to inline the rest elsewhere, and
-    put back. It is in the line that names the function: no call of itself can be there."""
+    """Whether inlined code is but a part of the function's own: what a compiler took out of it to
+    inline the rest elsewhere, and put back. It is in the line that names the function: no call of
+    itself can be there."""
     if not begin.inlined:
         return False
     frames = asked.places.frames(begin.address)[-begin.depth - 1:]
-    own = [frame.line for each in function.begins if not each.inlined for frame in asked.places.frames(each.address)[-1:]]
-    return len(frames) > 1 and frames[0].function == frames[1].function and any(frames[1].line <= line for line in own)
+    own = [frame.line for each in function.begins if not each.inlined
+           for frame in asked.places.frames(each.address)[-1:]]
+    return (len(frames) > 1 and frames[0].function == frames[1].function
+            and any(frames[1].line <= line for line in own))
 
 
 def inlined_call(frames: list[Frame], begin: Begin) -> list[Union[str, Frame]]:
@@ -335,8 +382,8 @@ def is_text(kind: Type) -> bool:
 
 def add_texts(asked: Asked, calls: Sequence[Call]) -> None:
     """Looks for the texts of calls that are told."""
-    found = texts_of(asked, [each for call in calls for each in call.pointers()
-                             if each.address < asked.log.memory and not asked.named.is_read_only(each.address)])
+    found = texts_of(asked, [each for call in calls for each in call.pointers() if each.address
+                             < asked.log.memory and not asked.named.is_read_only(each.address)])
     for call in calls:
         call.texts = found
 
@@ -346,7 +393,8 @@ def said_value(asked: Asked, kind: Type, value: Optional[int], text: str = "") -
         return "unknown"
     if kind["kind"] in ("fields", "array"):
         return f"{value:08x}"
-    said = value_text(Leaf("", 0, kind), value.to_bytes(8, "little")[:max(1, kind["size"])], asked.name_of)
+    said = value_text(Leaf("", 0, kind),
+                      value.to_bytes(8, "little")[:max(1, kind["size"])], asked.name_of)
     return said + (f" {text!r}" if text else literal(asked.named, value) if is_text(kind) else "")
 
 
@@ -363,23 +411,29 @@ def said_result(asked: Asked, call: Call) -> Optional[str]:
     """None if there is none."""
     if call.begin.result is None or call.rows is None:
         return None
-    return said_value(asked, call.begin.result, call.result, call.texts.get(Pointer(call.back, call.result or 0), ""))
+    return said_value(asked, call.begin.result, call.result,
+                      call.texts.get(Pointer(call.back, call.result or 0), ""))
 
 
 def said_arguments(asked: Asked, call: Call) -> dict[str, str]:
-    return {each.name: said_value(asked, each.type, value, call.texts.get(Pointer(call.place, value or 0), "") if is_text(each.type) else "")
+    return {each.name: said_value(asked, each.type,
+                                  value, call.texts.get(Pointer(call.place, value or 0), "")
+                                  if is_text(each.type) else "")
             for each, value in zip(call.begin.parameters, call.values)}
 
 
 def call_line(call: Call, asked: Asked) -> list[str]:
-    position, places = f"{call.hart.decode()}:{call.count}", asked.places
+    position = f"{call.hart.decode()}:{call.count}"
+    places = asked.places
     if call.begin.inlined:
         return [position, "(inlined)", "", "", places.chain([call.begin.address], MOST_FRAMES)]
     arguments = ", ".join(f"{name}={text}" for name, text in said_arguments(asked, call).items())
     result = said_result(asked, call)
     came = "jumps from " if call.jumped else "from "
-    return [position, f"({arguments})", f"-> {result}" if result else "", counted(call.rows, "row") if call.rows is not None else "no return",
-            came + places.chain([call.source], MOST_FRAMES) if call.source else "from before the first row"]
+    return [position, f"({arguments})", f"-> {result}" if result else "",
+            counted(call.rows, "row") if call.rows is not None else "no return",
+            came + places.chain([call.source], MOST_FRAMES) if call.source
+            else "from before the first row"]
 
 
 def report(found: Calls) -> list[str]:
@@ -393,13 +447,15 @@ def report(found: Calls) -> list[str]:
 def calls_answer(found: Calls) -> dict[str, Any]:
     asked = found.asked
     return {"function": found.function.name, "calls": found.total, "left_out": asked.left_out(),
-            "entries": [{"hart": int(call.hart), "count": call.count, "place": place_of(asked.places, call.begin.address),
-                         "inlined": call.begin.inlined, "from": place_of(asked.places, call.source) if call.source else None,
-                         "arguments": said_arguments(asked, call), "rows": call.rows, "result": said_result(asked, call)}
-                        for call in found.told]}
+            "entries": [{"hart": int(call.hart), "count": call.count, "place":
+                         place_of(asked.places, call.begin.address), "inlined": call.begin.inlined,
+                         "from": place_of(asked.places, call.source) if call.source else None,
+                         "arguments": said_arguments(asked, call), "rows": call.rows,
+                         "result": said_result(asked, call)} for call in found.told]}
 
 
-def calls_of(asked: Asked, function: Function, most: int = TOLD, where: Optional[Where] = None) -> Calls:
+def calls_of(asked: Asked, function: Function, most: int = TOLD,
+             where: Optional[Where] = None) -> Calls:
     found = Calls(asked, function, most, where)
     read(asked.chunks(), found)
     found.finish()

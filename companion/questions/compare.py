@@ -31,8 +31,13 @@ stored that word in each run.""",
     """What a hart does while it waits, in a loop that loads but stores and counts nothing, is no
 difference. Harts come in the order in which they parted in BAD. A log that has lost its beginning
 can't be compared.""")
-MOST_ROWS, LOOKED_BACK, READ_BACK, MOST_FRAMES = 15000000, 4000, 500, 3
-LOADED, STORED = "load ", "store "         # how what a row did begins
+MOST_ROWS = 15000000
+LOOKED_BACK = 4000
+READ_BACK = 500
+MOST_FRAMES = 3
+# How what a row did begins
+LOADED = "load "
+STORED = "store "
 
 
 @dataclass(frozen=True)
@@ -66,7 +71,8 @@ class Run:
         """A row; those before it and the next one are read with it."""
         rows = self.known.setdefault(hart, {})
         if count not in rows and count >= 0:
-            for text in rows_between(self.asked.log, self.asked.elf.name, hart, max(0, count - READ_BACK), count + 2):
+            for text in rows_between(self.asked.log, self.asked.elf.name, hart,
+                                     max(0, count - READ_BACK), count + 2):
                 for row in text[1:].split(b"\n"):
                     _, at, key, _ = cut(row)
                     said = row.decode("ascii", "replace")
@@ -76,9 +82,9 @@ class Run:
 
 @dataclass
 class Parting:
-    """The branch at which a hart went another way: its last row in each run that is the same, and the first that isn't, if it
-    has one. `loads` are the loads behind it, and `givers` the rows that had stored what they got. `place` is that of the row
-    in the order of BAD."""
+    """The branch at which a hart went another way: its last row in each run that is the same, and
+    the first that isn't, if it has one. `loads` are the loads behind it, and `givers` the rows that
+    had stored what they got. `place` is that of the row in the order of BAD."""
     lane: Lane
     same: list[Row]
     other: list[Optional[Row]]
@@ -92,17 +98,19 @@ class Parting:
 
 
 def lanes_of(runs: list[Run], most: int) -> tuple[list[Lane], bool]:
-    """The harts, compared up to so many rows of each run, and whether that left some out. Beginnings that are the same text are
-    passed by."""
+    """The harts, compared up to so many rows of each run, and whether that left some out.
+    Beginnings that are the same text are passed by."""
     loops = Loops(runs[0].asked.elf)
     lanes = [Lane(hart, loops) for hart in range(max(run.asked.log.harts for run in runs))]
     texts = [run.asked.chunks() for run in runs]
-    rows, now = [0, 0], [next(each, b"") for each in texts]
+    rows = [0, 0]
+    now = [next(each, b"") for each in texts]
     while now[0] and now[0] == now[1] and max(rows) < most:
         for lane in lanes:
             lane.good.pass_by(now[0])
             lane.bad.pass_by(now[0])
-        rows, now = [rows[0] + now[0].count(b"\n")] * 2, [next(each, b"") for each in texts]
+        rows = [rows[0] + now[0].count(b"\n")] * 2
+        now = [next(each, b"") for each in texts]
     while any(now) and not all(lane.is_over for lane in lanes) and max(rows) < most:
         at = 0 if now[0] and (rows[0] <= rows[1] or not now[1]) else 1
         for lane in lanes:
@@ -114,13 +122,15 @@ def lanes_of(runs: list[Run], most: int) -> tuple[list[Lane], bool]:
     is_cut = any(now) and not all(lane.is_over for lane in lanes)
     for lane in lanes:
         for way, run in zip((lane.good, lane.bad), runs):
-            way.ended, way.stopped = not is_cut, run.reason(lane.hart) in ("stopped", "limit")
+            way.ended = not is_cut
+            way.stopped = run.reason(lane.hart) in ("stopped", "limit")
         lane.advance()
     return lanes, is_cut
 
 
 def has_parted(lane: Lane, runs: list[Run]) -> bool:
-    """Whether a hart went another way. One that another hart or the limit has stopped did not, but for one that waited until then."""
+    """Whether a hart went another way. One that another hart or the limit has stopped did not, but
+    for one that waited until then."""
     for way, run in zip((lane.good, lane.bad), runs):
         if lane.parted and not way.pcs:
             return run.reason(lane.hart) == "limit" if lane.waits else not way.stopped
@@ -139,7 +149,8 @@ def parting_of(runs: list[Run], lane: Lane) -> Optional[Parting]:
 
 
 def loads_behind(runs: list[Run], lane: Lane, branch: Instruction) -> list[Optional[Row]]:
-    """The latest loads, in both runs the same instruction, that gave what a branch compared, and got different values."""
+    """The latest loads, in both runs the same instruction, that gave what a branch compared, and
+    got different values."""
     wanted = {branch.rs1, branch.rs2} - {0}
     for one, other in rows_back(runs, lane):
         if one.code.rd not in wanted:
@@ -154,27 +165,37 @@ def loads_behind(runs: list[Run], lane: Lane, branch: Instruction) -> list[Optio
 
 
 def rows_back(runs: list[Run], lane: Lane) -> Iterator[tuple[Row, Row]]:
-    """The rows that are the same in both runs, backwards from the last but one. What one of them waited longer is left out."""
-    good, bad, skips = lane.good.first - 2, lane.bad.first - 2, list(lane.skips)
+    """The rows that are the same in both runs, backwards from the last but one. What one of them
+    waited longer is left out."""
+    good = lane.good.first - 2
+    bad = lane.bad.first - 2
+    skips = list(lane.skips)
     for _ in range(LOOKED_BACK):
-        one, other = runs[0].row(lane.hart, good), runs[1].row(lane.hart, bad)
+        one = runs[0].row(lane.hart, good)
+        other = runs[1].row(lane.hart, bad)
         if not one or not other:
             return
         if one.code.pc == other.code.pc:
             yield one, other
-            good, bad = good - 1, bad - 1
+            good -= 1
+            bad -= 1
         elif skips:
             skip = skips.pop()
-            good, bad = (good, good - skip.good + skip.bad) if skip.is_bad else (bad - skip.bad + skip.good, bad)
+            good, bad = ((good, good - skip.good + skip.bad) if skip.is_bad
+                         else (bad - skip.bad + skip.good, bad))
         else:
             return
 
 
 class StoreSearch:
-    """Looks in the order of a run for the row that had stored what was loaded, and for the place at which a hart parted."""
+    """Looks in the order of a run for the row that had stored what was loaded, and for the place at
+    which a hart parted."""
 
     def __init__(self, run: Run, found: Parting, at: int) -> None:
-        self.found, self.at, load, row = found, at, found.loads[at], found.same[at]
+        self.found = found
+        self.at = at
+        load = found.loads[at]
+        row = found.same[at]
         self.branch = b"\n%d %d " % (found.hart, row.count)
         self.load = b"\n%d %d " % (found.hart, load.count) if load else b""
         self.words = Words(run.asked, loaded(load)) if load else None
@@ -192,7 +213,8 @@ class StoreSearch:
 
 
 def find_givers(run: Run, at: int, partings: list[Parting]) -> None:
-    rows, left = 0, [StoreSearch(run, found, at) for found in partings]
+    rows = 0
+    left = [StoreSearch(run, found, at) for found in partings]
     for text in run.asked.chunks() if left else ():
         left = [search for search in left if search.take(text, rows)]
         rows += text.count(b"\n")
@@ -213,7 +235,8 @@ def loaded(load: Row) -> Variable:
 def row_lines(title: str, row: Optional[Row], run: Run, found: Parting) -> list[str]:
     places = run.asked.places
     if row is None:
-        return [f"    {title:<5} " + ("waits there until its limit" if found.lane.waits else f"ends with {run.end(found.hart)}")]
+        return [f"    {title:<5} " + ("waits there until its limit" if found.lane.waits
+                                      else f"ends with {run.end(found.hart)}")]
     return [f"    {title:<5} {places.chain([row.code.pc], MOST_FRAMES)}", f"          {row.text}"]
 
 
@@ -221,8 +244,9 @@ def parting_lines(found: Parting, runs: list[Run]) -> list[str]:
     places = runs[0].asked.places
     good, bad = found.same
     source = places.source(good.code.pc)
-    lines = [f"hart {found.hart} went another way after count {number(good.count)} in GOOD, {number(bad.count)} in BAD",
-             f"  behind {places.chain([good.code.pc], MOST_FRAMES)}{'   ' + source if source else ''}"]
+    lines = [f"hart {found.hart} went another way after count {number(good.count)} in GOOD, "
+             f"{number(bad.count)} in BAD", "  behind "
+             f"{places.chain([good.code.pc], MOST_FRAMES)}{'   ' + source if source else ''}"]
     for title, row, run in zip(("GOOD", "BAD"), found.other, runs):
         lines += row_lines(title, row, run, found)
     if found.loads[0]:
@@ -238,12 +262,15 @@ def giver_text(row: str, run: Run) -> str:
     if not row:
         return "no row: it is from the beginning"
     hart, count, key, _ = cut(row.encode())
-    place, did = run.asked.places.chain([int(key[PC], 16)], MOST_FRAMES), told_in(row)[-1]
-    return f"{hart.decode()}:{count} in {place}: {did if did.startswith(STORED) else 'a read call, ' + did}"
+    place = run.asked.places.chain([int(key[PC], 16)], MOST_FRAMES)
+    did = told_in(row)[-1]
+    return (f"{hart.decode()}:{count} in {place}: "
+            f"{did if did.startswith(STORED) else 'a read call, ' + did}")
 
 
 def ends(title: str, run: Run) -> list[str]:
-    return [f"  {title:<5} " + "; ".join(f"hart {hart} {run.end(hart)}" for hart in sorted(run.asked.log.ends))]
+    return [f"  {title:<5} " + "; ".join(f"hart {hart} {run.end(hart)}"
+                                         for hart in sorted(run.asked.log.ends))]
 
 
 class Compared(NamedTuple):
@@ -258,18 +285,23 @@ class Compared(NamedTuple):
         for found in self.partings:
             lines += parting_lines(found, self.runs)
         lines += ["ENDS"] + ends("GOOD", self.runs[0]) + ends("BAD", self.runs[1])
-        lines += ["  Only the first rows were compared; --rows N reads more."] if self.is_cut else []
+        lines += (["  Only the first rows were compared; --rows N reads more."] if self.is_cut
+                  else [])
         return lines + self.runs[0].asked.places.trouble()
 
     def answer(self) -> dict[str, Any]:
-        return {"harts": self.harts, "parted": [parting_answer(found, self.runs) for found in self.partings], "is_cut": self.is_cut}
+        return {"harts": self.harts,
+                "parted": [parting_answer(found, self.runs) for found in self.partings],
+                "is_cut": self.is_cut}
 
 
 @contextlib.contextmanager
-def compared(good: str, bad: str, elf_name: str, files: Mapping[str, str], most: int = MOST_ROWS) -> Iterator[Compared]:
+def compared(good: str, bad: str, elf_name: str, files: Mapping[str, str],
+             most: int = MOST_ROWS) -> Iterator[Compared]:
     """Compares two logs up to so many rows of each. `files` are --names and --source."""
     with contextlib.ExitStack() as opened:
-        both = [opened.enter_context(asked_of(log, elf_name, {**files, "--rows": str(HIGHEST)})) for log in (good, bad)]
+        both = [opened.enter_context(asked_of(log, elf_name, {**files, "--rows": str(HIGHEST)}))
+                for log in (good, bad)]
         check(both)
         runs = [Run(asked) for asked in both]
         lanes, is_cut = lanes_of(runs, most)
@@ -283,16 +315,20 @@ def parting_answer(found: Parting, runs: list[Run]) -> dict[str, Any]:
     def point(row: Optional[Row]) -> Optional[dict[str, Any]]:
         if row is None:
             return None
-        return {"hart": found.hart, "count": row.count, "row": row.text, "place": place_of(runs[0].asked.places, row.code.pc)}
-    return {"hart": found.hart, "same": list(map(point, found.same)), "other": list(map(point, found.other)),
-            "loads": list(map(point, found.loads)), "givers": found.givers, "waits": found.lane.waits}
+        return {"hart": found.hart, "count": row.count, "row": row.text,
+                "place": place_of(runs[0].asked.places, row.code.pc)}
+    return {"hart": found.hart, "same": list(map(point, found.same)),
+            "other": list(map(point, found.other)), "loads": list(map(point, found.loads)),
+            "givers": found.givers, "waits": found.lane.waits}
 
 
 def check(runs: Iterable[Asked]) -> None:
     """CompanionError if a log has lost its beginning."""
     for asked in runs:
-        if asked.log.unread or any(interval.start for interval in asked.log.first_intervals().values()):
-            raise CompanionError(f"{asked.log.shown} has lost its beginning, so nothing tells if all was the same before", NO_INTERVAL)
+        if asked.log.unread or any(interval.start
+                                   for interval in asked.log.first_intervals().values()):
+            raise CompanionError(f"{asked.log.shown} has lost its beginning, "
+                                 "so nothing tells if all was the same before", NO_INTERVAL)
 
 
 def main(words: list[str]) -> int:

@@ -44,7 +44,8 @@ def main(words: list[str]) -> int:
     (log_name, elf_name), given = read_words(words, HELP.form)
     chosen = [option for option in KINDS if option in given]
     if len(chosen) != 1:
-        raise CompanionError(f"one of {', '.join(KINDS)} has to be given; the words are: {HELP.form}", REFUSED)
+        raise CompanionError(f"one of {', '.join(KINDS)} has to be given; "
+                             f"the words are: {HELP.form}", REFUSED)
     option = chosen[0]
     if ROW in given and option != "--core":
         raise CompanionError(f"--row is of --core alone; the words are: {HELP.form}", REFUSED)

@@ -26,14 +26,18 @@ symbol (`arena`, `arena+56`) or of a variable's part (`&orders[3]`). Of each pla
 first and the last time, how often, and what it did with the value: put it into a register, loaded
 it or stored it.""",
     more="A word that holds the value while no row touches it isn't seen.")
-MOST_ROWS = 2000000         # with the value are told by place; of the others only the number is told
-TOLD, MOST_FRAMES, MOST_WORDS = 100, 3, 3
+# With the value are told by place; of the others only the number is told
+MOST_ROWS = 2000000
+TOLD = 100
+MOST_FRAMES = 3
+MOST_WORDS = 3
 VERBS = {b"load ": "loads it from", b"store": "stores it to"}
 
 
 @dataclass
 class PlaceGroup:
-    """The rows of one place that do the same with the value. `words` are those of memory, of which the first are kept."""
+    """The rows of one place that do the same with the value. `words` are those of memory, of which
+    the first are kept."""
     pc: int
     did: str
     first: str
@@ -43,10 +47,12 @@ class PlaceGroup:
 
 
 class Found:
-    """total   how many rows have the value; groups: of the first of them, by place and what they do"""
+    """total   how many rows have the value; groups: of the first of them, by place and what they
+    do"""
 
     def __init__(self, asked: Asked, value: int) -> None:
-        self.asked, self.value = asked, value
+        self.asked = asked
+        self.value = value
         self.needle = b"=%08x" % value
         self.pattern = re.compile(self.needle)
         self.groups: dict[tuple[bytes, str], PlaceGroup] = {}
@@ -60,9 +66,11 @@ class Found:
             self.take_row(row)
 
     def take_row(self, row: bytes) -> None:
-        self.told, self.total = self.told + 1, self.total + 1
+        self.told += 1
+        self.total += 1
         hart, count, key, told = cut(row)
-        for part in reversed(told):             # memory before registers: a load puts the value there by itself
+        # Memory before registers: a load puts the value there by itself
+        for part in reversed(told):
             if part.endswith(self.needle):
                 self.occurs(f"{hart.decode()}:{count}", key[PC], part)
                 break
@@ -73,7 +81,8 @@ class Found:
         group = self.groups.get((pc, did))
         if group is None:
             group = self.groups[pc, did] = PlaceGroup(int(pc, 16), did, when)
-        group.last, group.times = when, group.times + 1
+        group.last = when
+        group.times += 1
         if verb and len(group.words) < MOST_WORDS:
             word = int(part[-17:-9], 16) & ~3
             if word not in group.words:
@@ -84,7 +93,8 @@ class Found:
         needle = self.value.to_bytes(4, "little")
         found: list[int] = []
         for part in self.asked.elf.parts if self.value else ():
-            body, at = bytes(part.body), -1
+            body = bytes(part.body)
+            at = -1
             while len(found) < MOST_WORDS and (at := body.find(needle, at + 1)) >= 0:
                 if (part.address + at) % 4 == 0:
                     found.append(part.address + at)
@@ -114,20 +124,23 @@ def word_text(asked: Asked, word: int) -> str:
 def group_line(group: PlaceGroup, asked: Asked) -> list[str]:
     words = ", ".join(word_text(asked, word) for word in group.words)
     more = ", .." if len(group.words) == MOST_WORDS else ""
-    return [group.first, group.last, number(group.times), " ".join(filter(None, (group.did, words))) + more,
-            asked.places.chain([group.pc], MOST_FRAMES)]
+    return [group.first, group.last, number(group.times), " ".join(filter(None, (group.did, words)))
+            + more, asked.places.chain([group.pc], MOST_FRAMES)]
 
 
 def report(found: Found) -> list[str]:
-    asked, groups = found.asked, list(found.groups.values())
+    asked = found.asked
+    groups = list(found.groups.values())
     asked.places.fetch(group.pc for group in groups[:TOLD])
-    lines = [f"FIND {found.value:08x}: {counted(found.total, 'row')}, {counted(len(groups), 'place')}"]
+    lines = [f"FIND {found.value:08x}: {counted(found.total, 'row')}, "
+             f"{counted(len(groups), 'place')}"]
     if found.total > found.told:
         lines.append(f"  Places are those of the first {number(found.told)} rows that have it.")
     in_file = found.in_file()
     if in_file:
         lines.append("  in the file: " + ", ".join(word_text(asked, word) for word in in_file))
-    rows = [["first", "last", "times", "", ""]] + [group_line(group, asked) for group in groups[:TOLD]]
+    rows = [["first", "last", "times", "", ""]] + [group_line(group, asked)
+                                                   for group in groups[:TOLD]]
     lines += columns(rows) if groups else []
     if len(groups) > TOLD:
         lines.append(f"  .. and {counted(len(groups) - TOLD, 'more place')}")
@@ -136,10 +149,11 @@ def report(found: Found) -> list[str]:
 
 def find_answer(found: Found) -> dict[str, Any]:
     asked = found.asked
-    return {"value": f"{found.value:08x}", "rows": found.total, "rows_by_place": found.told, "left_out": asked.left_out(),
-            "in_file": [f"{word:08x}" for word in found.in_file()],
-            "places": [{"place": place_of(asked.places, group.pc), "did": group.did, "first": group.first, "last": group.last,
-                        "times": group.times, "words": [f"{word:08x}" for word in group.words]}
+    return {"value": f"{found.value:08x}", "rows": found.total, "rows_by_place": found.told,
+            "left_out": asked.left_out(), "in_file": [f"{word:08x}" for word in found.in_file()],
+            "places": [{"place": place_of(asked.places, group.pc), "did": group.did,
+                        "first": group.first, "last": group.last, "times": group.times,
+                        "words": [f"{word:08x}" for word in group.words]}
                        for group in list(found.groups.values())[:LONGEST]]}
 
 

@@ -46,8 +46,8 @@ class Function(NamedTuple):
         own = [begin for begin in self.begins if not begin.inlined]
         if not own or own[0].parameters and not own[0].parameters[0].type["name"]:
             return self.name
-        return (
-            f"{self.name}({', '.join(each.type['name'] + ' ' + each.name for each in own[0].parameters)})")
+        parameters = (f"{each.type['name']} {each.name}" for each in own[0].parameters)
+        return f"{self.name}({', '.join(parameters)})"
 
 
 def function_of(elf: Elf, name: str) -> Function:

@@ -32,13 +32,16 @@ NAME is a variable or a part of it (`orders[3].amount`), a symbol, a symbol and 
     {"--changes": "only stores that change it"},
     """Types and parts are gdb's (gdb-multiarch, or what $ZELKUMA_GDB names). Rows are in the order
 of `joint`.""")
-TOLD, MOST_TOLD, MOST_FRAMES, LARGEST = 100, 1000000, 4, 8
+TOLD = 100
+MOST_TOLD = 1000000
+MOST_FRAMES = 4
+LARGEST = 8
 
 
 @dataclass(frozen=True)
 class Entry:
-    """A store or a `read` call: its hart and count, its row, its address and those of the calls over it, the part that it stored to,
-    and the values of that before and after."""
+    """A store or a `read` call: its hart and count, its row, its address and those of the calls
+    over it, the part that it stored to, and the values of that before and after."""
     hart: int
     count: int
     row: str
@@ -61,10 +64,15 @@ class History:
 
     total, told   how many there are, and those that are told"""
 
-    def __init__(self, asked: Asked, stacks: Stacks, variable: Variable, most: int, only_changes: bool) -> None:
+    def __init__(self, asked: Asked, stacks: Stacks, variable: Variable, most: int,
+                 only_changes: bool) -> None:
         """`stacks` takes each chunk before this."""
-        self.asked, self.stacks, self.variable, self.only_changes = asked, stacks, variable, only_changes
-        self.words, self.total = Words(asked, variable), 0
+        self.asked = asked
+        self.stacks = stacks
+        self.variable = variable
+        self.only_changes = only_changes
+        self.words = Words(asked, variable)
+        self.total = 0
         self.begins = dict(self.words.known)
         self.kept: Deque[Kept] = deque(maxlen=most)
 
@@ -73,7 +81,8 @@ class History:
             if not self.only_changes or self.is_change(change):
                 self.total += 1
                 row = row_at(text, change.place)
-                self.kept.append(Kept(change, row, self.stacks.chunk.top(hart_of(row), change.place)))
+                self.kept.append(Kept(change, row,
+                                      self.stacks.chunk.top(hart_of(row), change.place)))
 
     @property
     def told(self) -> List[Entry]:
@@ -82,71 +91,88 @@ class History:
     def is_change(self, change: Change) -> bool:
         if self.words.is_aligned or change.after is None:
             return change.after is None or change.after != change.before[1]
-        begin, end = max(change.word, self.variable.address), min(change.word + 4, self.variable.end)
+        begin = max(change.word, self.variable.address)
+        end = min(change.word + 4, self.variable.end)
         old, new = change.values(begin, end - begin)
         return old != new
 
     def entry(self, change: Change, row: bytes, top: Frame) -> Entry:
         hart, count, key, _ = cut(row)
-        code, base = Instruction(0, key), self.variable.address
-        first, end = change.word, change.word + 4
+        code = Instruction(0, key)
+        base = self.variable.address
+        first = change.word
+        end = change.word + 4
         if change.fill:
-            first, end = change.fill.address, change.fill.address + change.fill.size
+            first = change.fill.address
+            end = change.fill.address + change.fill.size
         elif code.kind == STORE:
             first = int(row[-17:-9], 16)
             end = first + code.width
-        first, end = max(first, base), min(end, self.variable.end)
+        first = max(first, base)
+        end = min(end, self.variable.end)
         part = self.part(first - base, end - base)
-        old, new = (value_text(part, data, self.asked.name_of) for data in change.values(base + part.at, part.size))
-        return Entry(int(hart), count, row.decode("ascii", "replace"), [code.pc, *call_places(top, MOST_FRAMES)], part.path, old, new,
-                     change.fill)
+        old, new = (value_text(part, data, self.asked.name_of)
+                    for data in change.values(base + part.at, part.size))
+        return Entry(int(hart), count, row.decode("ascii", "replace"),
+                     [code.pc, *call_places(top, MOST_FRAMES)], part.path, old, new, change.fill)
 
     def part(self, first: int, end: int) -> Leaf:
-        """The part of the variable that has these bytes; of several the bytes as they are, by the first one's name."""
+        """The part of the variable that has these bytes; of several the bytes as they are, by the
+        first one's name."""
         parts = list(itertools.islice(leaves(self.variable.type, first, end), 2))
         if len(parts) == 1:
             return parts[0]
-        return Leaf(parts[0].path if parts else f"+{first}", first, {"kind": "bytes", "size": end - first, "name": ""})
+        return Leaf(parts[0].path if parts else f"+{first}", first,
+                    {"kind": "bytes", "size": end - first, "name": ""})
 
 
 def entry_line(entry: Entry, asked: Asked, name: str) -> list[str]:
     new = f"{counted(entry.fill.size, 'byte')} of a read call" if entry.fill else entry.new
-    return [f"{entry.hart}:{entry.count}", name + entry.part, f"{entry.old} -> {new}", asked.places.chain(entry.pcs, MOST_FRAMES)]
+    return [f"{entry.hart}:{entry.count}", name + entry.part, f"{entry.old} -> {new}",
+            asked.places.chain(entry.pcs, MOST_FRAMES)]
 
 
 def before_line(found: History) -> list[str]:
     """What the variable was before the first row, if it has one part."""
-    variable, asked = found.variable, found.asked
+    variable = found.variable
+    asked = found.asked
     part = found.part(0, variable.size)
     if part.at or part.size != variable.size or variable.size > LARGEST:
         return []
-    data = bytes_of(map(found.begins.get, words_of(variable.address, variable.size)))[variable.address & 3:][:variable.size]
+    data = bytes_of(map(found.begins.get, words_of(variable.address, variable.size)))[
+        variable.address & 3:][:variable.size]
     if None in data:
         return ["  before the first row: unknown"]
     return [f"  before the first row: {value_text(part, data, asked.name_of)}, as the file has it"]
 
 
 def report(found: History) -> list[str]:
-    variable, asked = found.variable, found.asked
+    variable = found.variable
+    asked = found.asked
     asked.places.fetch(pc for entry in found.told for pc in entry.pcs)
-    head = f"HISTORY of {variable.what()}: {counted(found.total, 'change' if found.only_changes else 'store')}"
+    head = (f"HISTORY of {variable.what()}: "
+            f"{counted(found.total, 'change' if found.only_changes else 'store')}")
     rows = [entry_line(entry, asked, variable.name) for entry in found.told]
     if all(row[1] == variable.name for row in rows):
         rows = [row[:1] + row[2:] for row in rows]
-    return asked.report(head, [(entry.hart, entry.count) for entry in found.told], found.total, before_line(found) + columns(rows))
+    return asked.report(head, [(entry.hart, entry.count) for entry in found.told], found.total,
+                        before_line(found) + columns(rows))
 
 
 def history_answer(found: History) -> dict[str, Any]:
-    variable, asked = found.variable, found.asked
-    return {"name": variable.name, "address": f"{variable.address:08x}", "size": variable.size, "type": variable.type["name"],
-            "stores": found.total, "left_out": asked.left_out(),
-            "entries": [{"hart": entry.hart, "count": entry.count, "row": entry.row, "place": place_of(asked.places, entry.pcs[0]),
-                         "caller": place_of(asked.places, entry.pcs[1]) if len(entry.pcs) > 1 else None,
-                         "part": entry.part, "old": entry.old, "new": entry.new, "read": entry.fill.size if entry.fill else 0}
-                        for entry in found.told]}
+    variable = found.variable
+    asked = found.asked
+    return {"name": variable.name, "address": f"{variable.address:08x}", "size": variable.size,
+            "type": variable.type["name"], "stores": found.total, "left_out": asked.left_out(),
+            "entries": [{"hart": entry.hart, "count": entry.count, "row": entry.row,
+                         "place": place_of(asked.places, entry.pcs[0]),
+                         "caller": place_of(asked.places, entry.pcs[1]) if len(entry.pcs) > 1
+                         else None, "part": entry.part, "old": entry.old, "new": entry.new,
+                         "read": entry.fill.size if entry.fill else 0} for entry in found.told]}
 
 
-def history_of(asked: Asked, variable: Variable, most: int = TOLD, only_changes: bool = False) -> History:
+def history_of(asked: Asked, variable: Variable, most: int = TOLD,
+               only_changes: bool = False) -> History:
     stacks = asked.stacks()
     found = History(asked, stacks, variable, most, only_changes)
     read(asked.chunks(), stacks, found)

@@ -89,9 +89,11 @@ def cause_along(texts: Iterable[bytes], hart: int, end: End) -> Cause:
         return Cause(end.reason, end.value, 0, ())
     if not rows:
         raise CompanionError(f"the log holds no row of hart {hart} (see `list`)", NO_INTERVAL)
-    if end.reason == "limit":                   # any row of the loop can be last
+    if end.reason == "limit":
+        # Any row of the loop can be last
         top, pc = min(rows, key=lambda row: (row[0][2], row[1]))
-    else:                                       # after a jump to an address without code, the jump's place tells more
+    else:
+        # After a jump to an address without code, the jump's place tells more
         top, pc = rows[-2 if end.reason == "FetchOutside" and len(rows) > 1 else -1]
     return Cause(end.reason, end.value, pc, tuple(call_places(top, MOST_FRAMES)))
 

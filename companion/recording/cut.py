@@ -70,6 +70,7 @@ def last_count(text: bytes, hart: int) -> int:
 
 
 def loaded_before(text: bytes, place: int) -> bytes:
-    """What an atomic loaded, as eight digits, by the place of the value that it stored: before that stands
-    `load ADDRESS=VALUE | store ADDRESS=`. Nothing of other rows: a store-conditional loads nothing."""
+    """What an atomic loaded, as eight digits, by the place of the value that it stored: before that
+    stands `load ADDRESS=VALUE | store ADDRESS=`. Nothing of other rows: a store-conditional loads
+    nothing."""
     return text[place - 26:place - 18] if text.startswith(b"load ", place - 40) else b""

@@ -30,8 +30,10 @@ class Filter:
     """Puts the name of its place behind each line that tells of one."""
 
     def __init__(self, elf: Elf) -> None:
-        self.elf, self.places = elf, places_of(elf)
-        self.kept: dict[bytes, bytes] = {}      # third word of a row: what is put behind, with the line's end
+        self.elf = elf
+        self.places = places_of(elf)
+        # Third word of a row: what is put behind, with the line's end
+        self.kept: dict[bytes, bytes] = {}
         self.last: dict[bytes, bytes] = {}      # hart: what was put behind its last row
 
     def close(self) -> None:
@@ -42,8 +44,10 @@ class Filter:
         words = line.split(None, 3)
         if len(words) < 3:
             return self.other(line, words)
-        # A row's address is in memory, or has no code; a count of eight digits in a line of `list` is neither.
-        if len(words[2]) == 8 and words[0].isdigit() and (words[2] < b"1" or words[3:] and words[3][:8] == b"--------"):
+        # A row's address is in memory, or has no code; a count of eight digits in a line of `list`
+        # is neither.
+        if len(words[2]) == 8 and words[0].isdigit() and (words[2] < b"1" or words[3:]
+                                                          and words[3][:8] == b"--------"):
             behind = self.kept.get(words[2])
             if behind is None:
                 behind = self.kept[words[2]] = self.of_address(words[2])
@@ -60,8 +64,10 @@ class Filter:
         return behind(self.elf.data_name, text[:8])
 
     def other(self, line: bytes, words: list[bytes]) -> bytes:
-        """A line that is no row: an end, one of `list`, of `debug`, of `races`, a word of memory."""
-        kind, said = words[0] if words else b"", b"\n"
+        """A line that is no row: an end, one of `list`, of `debug`, of `races`, a word of
+        memory."""
+        kind = words[0] if words else b""
+        said = b"\n"
         if kind == b"end" and len(words) > 2:
             said = self.last.get(words[1], b"\n")
         elif kind.isdigit() and len(words) == 4:
@@ -95,8 +101,10 @@ def behind(name_of: Callable[[int], str], address: bytes) -> bytes:
 
 
 def filter_input(elf: Elf) -> int:
-    """Each piece of the input is answered at once, so a session of `debug` can be read through it."""
-    rest, source = b"", open(sys.stdin.fileno(), "rb", closefd=False)
+    """Each piece of the input is answered at once, so a session of `debug` can be read through
+    it."""
+    rest = b""
+    source = open(sys.stdin.fileno(), "rb", closefd=False)
     with closing(Filter(elf)) as rows:
         while True:
             piece = source.read1(CHUNK)

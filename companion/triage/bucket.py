@@ -27,9 +27,10 @@ UNKNOWN = "-"
 
 
 def digest_of(cause: Cause, elf: Elf) -> str:
-    """Of what the recorded file and the log alone say: so it is the same on each machine, whatever tools and files with
-    names are there."""
-    said = [cause.reason, UNKNOWN if cause.reason == "limit" else f"{cause.pc:08x}", *cause.functions(elf)]
+    """Of what the recorded file and the log alone say: so it is the same on each machine, whatever
+    tools and files with names are there."""
+    said = [cause.reason, UNKNOWN if cause.reason == "limit" else f"{cause.pc:08x}",
+            *cause.functions(elf)]
     return hashlib.sha256("\n".join(said).encode("utf-8", "replace")).hexdigest()[:8]
 
 

@@ -54,8 +54,8 @@ def junit_text(table: Table) -> str:
                      f"name={quoted(group.bucket.line())}>")
         if group.bucket.reason not in EXITS:
             said = "\n".join(filter(None, [group.error, group.suspect, group.command()]))
-            lines.append("<failure "
-                         f"message={quoted(counted(group.count, 'log'))}>{cleaned(said)}</failure>")
+            message = quoted(counted(group.count, "log"))
+            lines.append(f"<failure message={message}>{cleaned(said)}</failure>")
         lines.append("</testcase>")
     for why, files in unread:
         lines.append(

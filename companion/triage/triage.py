@@ -50,7 +50,8 @@ KINDS = {"--json": JSON, "--junit": JUNIT, "--html": PAGE}
 def ask(tasks: list[Task], what: str) -> dict[str, Answer]:
     """{log: the answer}. How many there are is told."""
     found: dict[str, Answer] = {}
-    with closing(answers(tasks, min(len(os.sched_getaffinity(0)), len(tasks)))) as said, streams.Progress() as progress:
+    with closing(answers(tasks, min(len(os.sched_getaffinity(0)),
+                                    len(tasks)))) as said, streams.Progress() as progress:
         for task, answer in said:
             found[task.log] = answer
             progress.tell(f"{number(len(found))} of {counted(len(tasks), what)}")
@@ -74,7 +75,8 @@ def table_of(logs: Logs, elfs: Mapping[str, str], found: Mapping[str, Answer]) -
 
 def with_suspects(table: Table) -> None:
     """Asks for the suspects of the most frequent causes, each of one log."""
-    groups = [group for group in table.sorted() if group.bucket.reason not in EXITS and group.is_whole][:MOST_SUSPECTS]
+    groups = [group for group in table.sorted()
+              if group.bucket.reason not in EXITS and group.is_whole][:MOST_SUSPECTS]
     found = ask([Task(group.example.name, group.elf, True) for group in groups], "suspect")
     for group in groups:
         answer = found[group.example.name]
@@ -83,9 +85,11 @@ def with_suspects(table: Table) -> None:
 
 
 def lines_of(group: Group) -> list[str]:
-    first, last = group.first, group.last
+    first = group.first
+    last = group.last
     harts = ", ".join(map(str, sorted(group.harts)))
-    lines = [f"harts {harts}; {day(first)} {clean(first.name)}" + (f" to {day(last)} {clean(last.name)}" if first != last else "")]
+    lines = [f"harts {harts}; {day(first)} {clean(first.name)}"
+             + (f" to {day(last)} {clean(last.name)}" if first != last else "")]
     lines += [f"{counted(group.salvaged, 'log')} of them salvaged"] if group.salvaged else []
     lines += [f"memory error: {group.error}"] if group.error else []
     lines += [f"suspect: {group.suspect}"] if group.suspect else []
@@ -95,14 +99,17 @@ def lines_of(group: Group) -> list[str]:
 def parts_of(table: Table) -> list[Part]:
     """The table, most frequent first; then what isn't read."""
     parts = [Part("", [table.heading()])]
-    parts += [Part(f"{number(group.count)}  {group.bucket.line()}", lines_of(group)) for group in table.sorted()]
+    parts += [Part(f"{number(group.count)}  {group.bucket.line()}", lines_of(group))
+              for group in table.sorted()]
     if table.unread:
-        parts.append(Part("NOT READ", [unread_line(why, files) for why, files in table.sorted_unread()]))
+        parts.append(Part("NOT READ",
+                          [unread_line(why, files) for why, files in table.sorted_unread()]))
     return parts
 
 
 def unread_line(why: str, files: Sequence[File]) -> str:
-    return f"{number(len(files))}  {clean(why)}: {clean(files[0].name)}" + (" and others" if len(files) > 1 else "")
+    return (f"{number(len(files))}  {clean(why)}: {clean(files[0].name)}"
+            + (" and others" if len(files) > 1 else ""))
 
 
 def saved_text(option: str, table: Table, parts: list[Part]) -> str:
@@ -118,12 +125,15 @@ def main(words: list[str]) -> int:
     targets: dict[str, Target] = {}
     for option, kind in KINDS.items():
         if option in given:
-            targets[option] = target(given[option], kind, [other.name for other in targets.values()])
+            targets[option] = target(given[option], kind,
+                                     [other.name for other in targets.values()])
     logs = find_logs(folders)
     if not logs.files:
-        raise CompanionError(f"there is no log below {', '.join(map(shlex.quote, folders))}", MISSING)
+        raise CompanionError(f"there is no log below {', '.join(map(shlex.quote, folders))}",
+                             MISSING)
     elfs = Store([given["--elfs"]]).find({file.program for file in logs.files})
-    table = table_of(logs, elfs, ask([Task(file.name, elfs[file.program]) for file in logs.files if file.program in elfs], "log"))
+    table = table_of(logs, elfs, ask([Task(file.name, elfs[file.program])
+                                      for file in logs.files if file.program in elfs], "log"))
     with_suspects(table)
     parts = parts_of(table)
     for option, place in targets.items():

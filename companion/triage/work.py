@@ -95,7 +95,8 @@ class Work:
             return Answer(UNREAD, TOO_LARGE if error.status == NO_MEMORY else str(error))
         except OSError as error:
             failed = error.strerror or str(error)
-        except Exception as error:              # a forged log may meet a fault of ours: the others are read all the same
+        except Exception as error:
+            # A forged log may meet a fault of ours: the others are read all the same
             failed = f"its reader failed inside ({type(error).__name__})"
         self.close()                            # a question may be under way
         return Answer(UNREAD, failed)

@@ -195,7 +195,8 @@ class History:
         elif flag & STORES:
             self.step(writers.second[n], price + 1, n, "value")
             self.step(writers.first[n], price + self.address, n, "address")
-        elif ins.kind not in (CALL, JUMP):      # a call's result comes from outside, a return address is a constant
+        elif ins.kind not in (CALL, JUMP):
+            # A call's result comes from outside, a return address is a constant
             self.step(self.unchanged(n), price, n, "value")
             price += 0 if ins.move else 1
             self.step(writers.before_counting(n), price, n, "value")

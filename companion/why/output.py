@@ -1,7 +1,7 @@
 """Lists what the guest wrote.
 
-Which calls wrote, from where and how much is in the log's records. Of its rows those are read that touch the words that were
-written, and calls and returns."""
+Which calls wrote, from where and how much is in the log's records. Of its rows those are read that
+touch the words that were written, and calls and returns."""
 from __future__ import annotations
 
 from typing import Any, Iterable, Iterator, NamedTuple, Optional
@@ -34,16 +34,19 @@ HELP = Help(
 explains one. Of the calls over a write those of a library, whose source isn't here, are passed. The
 text is put together from the rows of `joint`: bytes that no row loaded or stored, and that the file
 doesn't give for sure, are told as unknown.""")
-MOST_ROWS, MOST_FRAMES, MOST_RANGES = 32000000, 4, 8
+MOST_ROWS = 32000000
+MOST_FRAMES = 4
+MOST_RANGES = 8
 MOST_LIBRARY_CALLS = 16     # over a write: a library's printf has eight of its own
 UNKNOWN = "\ufffd"          # in place of a byte that isn't known
-ASKED, SET = b" 00000073 ecall", b"| a0="
+ASKED = b" 00000073 ecall"
+SET = b"| a0="
 STREAMS = {1: "the output", 2: "err"}
 
 
 class Write(NamedTuple):
-    """A write: its number, its call, its row, the stream, the bytes that it took, and the innermost frame there. A byte is None if
-    it isn't known."""
+    """A write: its number, its call, its row, the stream, the bytes that it took, and the innermost
+    frame there. A byte is None if it isn't known."""
     number: int
     call: SystemCall
     row: str
@@ -55,14 +58,22 @@ class Write(NamedTuple):
 class Reader:
     """Follows the rows of `joint`: the words that are written, and a0."""
 
-    def __init__(self, log: Log, elf: Elf, stacks: Stacks, numbers: dict[SystemCall, int], passed: Optional[Passed]) -> None:
-        """`numbers` are those of the writes of the whole log; `passed` has taken the rows before those that come, if there are any."""
-        ranges = few_ranges(((call.address, call.address + call.size) for call in numbers if call.size), MOST_RANGES)
+    def __init__(self, log: Log, elf: Elf, stacks: Stacks, numbers: dict[SystemCall, int],
+                 passed: Optional[Passed]) -> None:
+        """`numbers` are those of the writes of the whole log; `passed` has taken the rows before
+        those that come, if there are any."""
+        ranges = few_ranges(((call.address, call.address + call.size)
+                             for call in numbers if call.size), MOST_RANGES)
         self.followed = FollowedMemory(log, elf, not log.dropped and not passed, ranges)
-        self.stacks, self.numbers, self.passed = stacks, numbers, passed
-        self.calls = {(call.hart, call.count): call for call in log.system_calls() if call in numbers}
+        self.stacks = stacks
+        self.numbers = numbers
+        self.passed = passed
+        self.calls = {(call.hart, call.count): call
+                      for call in log.system_calls() if call in numbers}
         self.wanted = sorted(numbers[call] for call in self.calls.values())
-        self.a0 = {b"%d" % hart: interval.registers[A0] for hart, interval in log.first_intervals().items()}      # as it was last set
+        # As it was last set
+        self.a0 = {b"%d" % hart: interval.registers[A0]
+                   for hart, interval in log.first_intervals().items()}
 
     def writes(self, texts: Iterator[bytes]) -> Iterator[Write]:
         """In the order of their numbers."""
@@ -70,7 +81,8 @@ class Reader:
         at = 0
         for text in texts:
             if self.passed:
-                self.a0 = {b"%d" % hart: values[A0] for hart, values in self.passed.registers().items()}
+                self.a0 = {b"%d" % hart: values[A0]
+                           for hart, values in self.passed.registers().items()}
                 self.passed = None
             self.stacks.take(text)
             for write in self.written(text):
@@ -85,7 +97,8 @@ class Reader:
         self.followed.take(text)
         at = 0
         for asked in places(text, ASKED):
-            begin, end = text.rfind(b"\n", 0, asked) + 1, text.find(b"\n", asked)
+            begin = text.rfind(b"\n", 0, asked) + 1
+            end = text.find(b"\n", asked)
             name = hart_at(text, begin)
             call = self.calls.get((int(name), count_of(text[begin:asked])))
             if call:
@@ -93,7 +106,8 @@ class Reader:
                 at = begin
                 self.followed.go_to(begin)
                 row = text[begin:end if end >= 0 else len(text)].decode("ascii", "replace")
-                yield Write(self.numbers[call], call, row, self.a0[name], self.followed.memory.read(call.address, call.size),
+                yield Write(self.numbers[call], call, row, self.a0[name],
+                            self.followed.memory.read(call.address, call.size),
                             self.stacks.chunk.top(name, begin))
         self.follow_a0(text, at, len(text))
 
@@ -109,8 +123,8 @@ class Reader:
 
 
 def place_of(places: Places, write: Write) -> str:
-    """The place of a write, and the calls over it, innermost first. Those of a library, whose source isn't here, are passed
-    if others have theirs."""
+    """The place of a write, and the calls over it, innermost first. Those of a library, whose
+    source isn't here, are passed if others have theirs."""
     pcs = [write.call.pc, *call_places(write.top, MOST_LIBRARY_CALLS)]
     frames = [frame for pc in pcs for frame in places.frames(pc)]
     own = [frame for frame in frames if frame.line and places.sources.lines(frame.path)]
@@ -127,11 +141,14 @@ def write_answer(places: Places, write: Write) -> dict[str, Any]:
 
 def numbered(log: Log) -> dict[SystemCall, int]:
     """The writes of a log, and their numbers."""
-    return {call: at for at, call in enumerate(call for call in log.system_calls() if call.kind == WRITE_CALL)}
+    return {call: at for at, call in enumerate(call for call in log.system_calls()
+                                               if call.kind == WRITE_CALL)}
 
 
-def writes_of(log: Log, elf: Elf, stacks: Stacks, numbers: dict[SystemCall, int], most: int) -> Iterator[Write]:
-    """The writes among about so many of the last rows of a log. `numbers` are those of the whole log's."""
+def writes_of(log: Log, elf: Elf, stacks: Stacks, numbers: dict[SystemCall, int],
+              most: int) -> Iterator[Write]:
+    """The writes among about so many of the last rows of a log. `numbers` are those of the whole
+    log's."""
     first = log.rows() - most if log.rows() > 2 * most else 0
     passed = Passed(log, elf.name)
     texts = after(first, chunks(log.name, elf.name, log=log), passed.take)
@@ -139,7 +156,8 @@ def writes_of(log: Log, elf: Elf, stacks: Stacks, numbers: dict[SystemCall, int]
 
 
 class Found(NamedTuple):
-    """The last letter of a text: its write, its place in that, and how often the text was written."""
+    """The last letter of a text: its write, its place in that, and how often the text was
+    written."""
     write: int
     place: int
     times: int
@@ -147,8 +165,10 @@ class Found(NamedTuple):
 
 def find_text(writes: Iterable[Write], text: str) -> Found:
     """The last place of a text, if it was written. It may have come in pieces, to one stream."""
-    wanted, found = text.encode().decode("latin-1"), Found(0, 0, 0)
-    before: dict[int, str] = {}                 # {stream: what was written last, less than the text}
+    wanted = text.encode().decode("latin-1")
+    found = Found(0, 0, 0)
+    # {stream: what was written last, less than the text}
+    before: dict[int, str] = {}
     for write in writes:
         tail = before.get(write.stream, "")
         said = tail + "".join(UNKNOWN if byte is None else chr(byte) for byte in write.data)
@@ -162,34 +182,43 @@ def find_text(writes: Iterable[Write], text: str) -> Found:
 
 def text_in(asked: Opened, text: str, most: int = MOST_ROWS) -> Found:
     """The same by the rows of a log."""
-    numbers, log = numbered(asked.source.whole()), asked.source.end(most)
-    found = find_text(writes_of(log, asked.elf, Stacks(entries_of(asked.elf), log.harts), numbers, most), text)
+    numbers = numbered(asked.source.whole())
+    log = asked.source.end(most)
+    found = find_text(writes_of(log, asked.elf, Stacks(entries_of(asked.elf), log.harts),
+                                numbers, most), text)
     if not found.times:
-        raise CompanionError(f"the last {number(most)} rows wrote no {quoted(list(text.encode()))}: "
+        raise CompanionError(f"the last {number(most)} rows wrote no "
+                             f"{quoted(list(text.encode()))}: "
                              "`zelkuma output` lists what was written", NO_INTERVAL)
     return found
 
 
 def said_of(places: Places, write: Write) -> str:
     stream = STREAMS.get(write.stream, f"stream {write.stream}")
-    return (f"{write.number:>3}. {counted(len(write.data), 'byte')} to {stream}, in {place_of(places, write)}\n"
+    return (f"{write.number:>3}. {counted(len(write.data), 'byte')} to {stream}, "
+            f"in {place_of(places, write)}\n"
             f"     {quoted(write.data)}\n     {write.row}\n")
 
 
 def main(words: list[str]) -> int:
     (log_name, elf_name), given = read_words(words, HELP.form)
     with opened(log_name, elf_name, given) as found:
-        all_rows, log = found.source.whole(), found.log(MOST_ROWS)
+        all_rows = found.source.whole()
+        log = found.log(MOST_ROWS)
         stacks = Stacks(entries_of(found.named), log.harts)
-        numbers, listed = numbered(all_rows), []
+        numbers = numbered(all_rows)
+        listed = []
         count = size = unknown = 0
         for write in writes_of(log, found.elf, stacks, numbers, found.rows or MOST_ROWS):
             if "--json" in given:
                 listed.append(write_answer(found.places, write))
             else:
                 beside = found.ready(write.call.hart, write.call.count)
-                streams.put(said_of(found.places, write) + "".join(f"     {line}\n" for line in beside))
-            count, size, unknown = count + 1, size + len(write.data), unknown + write.data.count(None)
+                streams.put(said_of(found.places, write)
+                            + "".join(f"     {line}\n" for line in beside))
+            count += 1
+            size = size + len(write.data)
+            unknown = unknown + write.data.count(None)
     before = len(numbers) - count
     if "--json" in given:
         put_answer("output", writes=listed, writes_before=before, dropped_records=all_rows.dropped)
@@ -197,8 +226,10 @@ def main(words: list[str]) -> int:
     said = f"OUTPUT: {counted(count, 'write')}, {counted(size, 'byte')}"
     streams.put(said + (f", of which {number(unknown)} aren't known\n" if unknown else "\n"))
     if before:
-        streams.put(f"  Only the last {counted(log.rows(), 'row')} were read: {counted(before, 'write')} before them aren't listed. "
+        streams.put(f"  Only the last {counted(log.rows(), 'row')} were read: "
+                    f"{counted(before, 'write')} before them aren't listed. "
                     "--rows N reads the last N.\n")
     if all_rows.dropped:
-        streams.put(f"  The log gave up {number(all_rows.dropped)} records before its first: earlier writes are lost.\n")
+        streams.put(f"  The log gave up {number(all_rows.dropped)} records before its first: "
+                    "earlier writes are lost.\n")
     return 0

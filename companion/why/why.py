@@ -47,7 +47,8 @@ def asked_output(asked: Opened, text: str) -> tuple[Byte, str]:
     if is_byte(text):
         return asked_byte(text), ""
     found = text_in(asked, text)
-    times = f"The text was written {number(found.times)} times: this is the last." if found.times > 1 else ""
+    times = (f"The text was written {number(found.times)} times: this is the last."
+             if found.times > 1 else "")
     return Byte(found.write, found.place), times
 
 
@@ -60,26 +61,31 @@ def parts_of(analysis: Analysis, errors: MemoryErrors, given: Mapping[str, str])
 def brief_of(log: str, elf: str) -> list[str]:
     """The lines of `why --brief`."""
     with analysed(log, elf) as analysis:
-        return [line for part in parts_of(analysis, MemoryErrors(analysis), {"--brief": ""}) for line in part.text()]
+        return [line for part in parts_of(analysis, MemoryErrors(analysis), {"--brief": ""})
+                for line in part.text()]
 
 
 def main(words: list[str]) -> int:
     (log, elf), given = read_words(words, HELP.form)
     if "--brief" in given and "--more" in given:
         raise CompanionError("--brief and --more can't both be given", REFUSED)
-    saved = target(given["--html"], PAGE, [log, elf, given.get("--names", "")]) if "--html" in given else None
+    saved = (target(given["--html"], PAGE, [log, elf, given.get("--names", "")])
+             if "--html" in given else None)
     with opened(log, elf, given) as asked:
         byte, note = asked_output(asked, given["--output"]) if "--output" in given else (None, "")
         analysis = analysis_of(asked, given.get("--row", ""), byte)
         analysis.notes += [note] * bool(note)
-        story, teller = asked_story(given, analysis.log, elf), Teller(analysis.named, analysis.places)
+        story = asked_story(given, analysis.log, elf)
+        teller = Teller(analysis.named, analysis.places)
         parts = [Part(STORY_HEAD, teller.story(story))] if story else []
         errors = MemoryErrors(analysis)
         parts += parts_of(analysis, errors, given)
         if "--json" in given:
-            put_answer("why", **why_answer(analysis), memory=errors.entries(), book=teller.story_answer(story))
+            put_answer("why", **why_answer(analysis), memory=errors.entries(),
+                       book=teller.story_answer(story))
     if saved:
-        saved.save(page(f"Why {os.path.basename(elf)} ended", parts).encode("utf-8", "backslashreplace"))
+        saved.save(page(f"Why {os.path.basename(elf)} ended", parts).encode("utf-8",
+                                                                            "backslashreplace"))
     if "--json" in given:
         return 0
     streams.put_lines(line for part in parts for line in part.text())

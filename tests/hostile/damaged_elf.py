@@ -90,8 +90,8 @@ class Damage:
         for _ in range(self.draw.choice((1, 1, 2, 5))):
             try:
                 self.draw.choice(ways)()
-            except (struct.error, ValueError, IndexError):      # what an earlier damage left is too short for this one
-                pass
+            except (struct.error, ValueError, IndexError):
+                pass                # what an earlier damage left is too short for this one
         return bytes(self.data)
 
 

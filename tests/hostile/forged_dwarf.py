@@ -19,7 +19,8 @@ import zlib
 
 import dwarf_file as dw
 import forked
-from dwarf_file import ADDRESS, DATA1, DATA2, DATA4, DATA8, EXPRESSION, FLAG, REF4, REF_ADDRESS, SEC_OFFSET, SIGNED, STRING, STRP, UDATA, Die
+from dwarf_file import (ADDRESS, DATA1, DATA2, DATA4, DATA8, EXPRESSION, FLAG, REF4, REF_ADDRESS,
+                        SEC_OFFSET, SIGNED, STRING, STRP, UDATA, Die)
 from tried import TOP, write
 
 sys.path.insert(0, TOP)

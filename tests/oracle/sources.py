@@ -6,7 +6,8 @@ from typing import Callable, Dict, List, NamedTuple, Tuple
 
 HEAD = """typedef unsigned int word;
 #define OWN __attribute__((noinline, noclone))
-int raw_sum(int, int), sized_sum(int, int), raw_twice(int, int), through(void *, int), bounce(void *, int);
+int raw_sum(int, int), sized_sum(int, int), raw_twice(int, int);
+int through(void *, int), bounce(void *, int);
 static inline int sys(int n, int a, int b, int c)
 {
     register int a0 __asm__("a0") = a;
@@ -110,7 +111,11 @@ OWN int far{n}(int rounds)
 def seldom(draw: Draw, n: str) -> Piece:
     times = draw.choice([100, 1000, 1000, 25000])
     return Piece(f"""int rare{n}; word state{n} = {draw.randrange(1, 1 << 30)};
-OWN word next{n}(void) {{ state{n} ^= state{n} << 13; state{n} ^= state{n} >> 17; state{n} ^= state{n} << 5; return state{n}; }}
+OWN word next{n}(void)
+{{
+    state{n} ^= state{n} << 13; state{n} ^= state{n} >> 17; state{n} ^= state{n} << 5;
+    return state{n};
+}}
 OWN void seldom{n}(int v) {{ rare{n} = v; }}
 OWN int run{n}(int n)
 {{
@@ -136,7 +141,8 @@ OWN int one{n}(int a) {{ went{n} = a; return a + {draw.randrange(1, 9)}; }}
 OWN int two{n}(int a) {{ went{n} += a; return a * {draw.randrange(2, 9)}; }}
 int (*volatile ways{n}[2])(int) = {{ one{n}, two{n} }};
 OWN int choose{n}(int a) {{ return ways{n}[a & 1](a); }}
-""", f"for (int i = 0; i < {draw.randrange(2, 12)}; i++) got += choose{n}(i) + through(one{n}, i) + bounce(two{n}, i);")
+""", f"for (int i = 0; i < {draw.randrange(2, 12)}; i++) "
+        f"got += choose{n}(i) + through(one{n}, i) + bounce(two{n}, i);")
 
 
 def reads(draw: Draw, n: str) -> Piece:
@@ -173,16 +179,21 @@ def loops(draw: Draw, n: str) -> Piece:
     return Piece(f"""int last{n};
 OWN int length{n}(const char *text) {{ const char *at = text; while (*at) at++; return at - text; }}
 OWN word gcd{n}(word a, word b) {{ while (b) {{ word c = a % b; a = b; b = c; }} return a; }}
-OWN word twice{n}(word *p, word n) {{ do {{ *p = gcd{n}(*p, {draw.randrange(100, 500)}); }} while (--n); return *p; }}
+OWN word twice{n}(word *p, word n)
+{{
+    do {{ *p = gcd{n}(*p, {draw.randrange(100, 500)}); }} while (--n); return *p;
+}}
 OWN int sum{n}(int *p, int n) {{ while (n) {{ last{n} = *p++; n--; }} return last{n}; }}
 int cells{n}[4] = {{ 1, 2, 3, 0 }};
-""", f"{{ word v = {draw.randrange(1000, 2000)}; got += length{n}(\"some text\") + twice{n}(&v, 2) + sum{n}(cells{n}, 4); }}")
+""", f"{{ word v = {draw.randrange(1000, 2000)}; "
+        f"got += length{n}(\"some text\") + twice{n}(&v, 2) + sum{n}(cells{n}, 4); }}")
 
 
 def moves(draw: Draw, n: str) -> Piece:
     return Piece(f"""char from{n}[8] = "abcdefg", to{n}[8];
 OWN void move{n}(char *to, const char *from, int n) {{ while (n--) *to++ = *from++; }}
-""", f"move{n}(to{n}, from{n}, {draw.randrange(1, 4)}); move{n}(to{n}, from{n}, {draw.randrange(4, 8)}); got += to{n}[2];")
+""", f"move{n}(to{n}, from{n}, {draw.randrange(1, 4)}); "
+        f"move{n}(to{n}, from{n}, {draw.randrange(4, 8)}); got += to{n}[2];")
 
 
 def numbers(draw: Draw, n: str) -> Piece:
@@ -203,8 +214,10 @@ struct pair{n} {{ char tag; short part; int value; const char *name; }} pairs{n}
 
 
 def same_again(draw: Draw, n: str) -> Piece:
-    return Piece(f"int same{n} = {draw.randrange(9)}; short half{n}[4]; unsigned char bytes{n}[8];\n", f"""__atomic_fetch_or(&same{n}, 0, __ATOMIC_SEQ_CST);
-    for (int i = 0; i < 8; i++) {{ bytes{n}[i] = i * {draw.randrange(3, 99)}; half{n}[i & 3] = bytes{n}[i] - 50; }}
+    data = f"int same{n} = {draw.randrange(9)}; short half{n}[4]; unsigned char bytes{n}[8];\n"
+    return Piece(data, f"""__atomic_fetch_or(&same{n}, 0, __ATOMIC_SEQ_CST);
+    for (int i = 0; i < 8; i++)
+    {{ bytes{n}[i] = i * {draw.randrange(3, 99)}; half{n}[i & 3] = bytes{n}[i] - 50; }}
     __atomic_store_n(&same{n}, same{n}, __ATOMIC_SEQ_CST);
     if (same{n} > {draw.randrange(9)}) got++;""")
 
@@ -217,7 +230,8 @@ OWN int put{n}(int old, int new)
     __atomic_compare_exchange_n(&slot{n}, &old, new, 0, __ATOMIC_SEQ_CST, __ATOMIC_SEQ_CST);
     return old;
 }}
-""", f"got += put{n}(3, 0) + put{n}(0, 0) + put{n}(0, {draw.randrange(1, 9)}) + put{n}(99, 1) + slot{n};")
+""", f"got += put{n}(3, 0) + put{n}(0, 0) + put{n}(0, {draw.randrange(1, 9)}) "
+        f"+ put{n}(99, 1) + slot{n};")
 
 
 def calculation(draw: Draw, n: str) -> Piece:
@@ -299,7 +313,8 @@ def program(draw: Draw, harts: int, names: List[str], end: str) -> str:
     shared = threads(draw, "t") if harts > 1 else Piece("", "")
     calls = "\n    ".join(piece.call for _, piece in pieces)
     others = draw.choice(OTHERS) if harts > 1 else ""
-    return (HEAD + "int flag = 5, work;\n" + shared.code + "".join(piece.code for _, piece in pieces) + f"""
+    codes = "".join(piece.code for _, piece in pieces)
+    return (HEAD + "int flag = 5, work;\n" + shared.code + codes + f"""
 int main(int h, int harts)
 {{
     int got = harts;
@@ -389,9 +404,8 @@ def drawn_heap_program(draw: random.Random) -> str:
             lists -= 1
         elif kind < 0.8:
             sizes[i] = draw.randrange(1, 40)
-            code.append(
-                f"blocks[{i}] = "
-                f"{draw.choice(['realloc(blocks[%d], %d)' % (i, sizes[i]), 'calloc(%d, 1)' % sizes[i]])};")
+            calls = f"realloc(blocks[{i}], {sizes[i]})", f"calloc({sizes[i]}, 1)"
+            code.append(f"blocks[{i}] = {draw.choice(calls)};")
         elif kind < 0.95:
             sizes[i] = draw.randrange(1, 40)
             code.append(f"free(blocks[{i}]);")

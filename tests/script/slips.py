@@ -97,7 +97,7 @@ shrink LOG heap.elf BOOK NEW NEWBOOK => 2 there is nothing to shrink
 shrink LOG heap.elf BOOK => 2 NEWLOG is missing
 recheck LOG heap.elf BOOK => 2 3 names are given
 recheck LOG heap.elf => 2 is no order of harts
-"""
+"""  # noqa: E501 (a call and what it has to say are one line)
 
 
 def edited(data, *edits):

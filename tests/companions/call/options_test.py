@@ -20,7 +20,8 @@ class NumbersTest(unittest.TestCase):
             return "-"
 
     def test_each_of_the_list(self):
-        with open(os.path.join(common.TOP, "tests", "script", "numbers.txt"), encoding="utf-8") as file:
+        with open(os.path.join(common.TOP, "tests", "script", "numbers.txt"),
+                  encoding="utf-8") as file:
             lines = [line.split() for line in file if not line.startswith("#")]
         self.assertEqual([[word, self.read(word)] for word, _ in lines], lines)
         self.assertGreater(len(lines), 20)

@@ -10,7 +10,8 @@ import time
 
 import cases
 from common import COMPANION, EXAMPLES, PROGRAM, companion, content
-from recordings import A0, A1, A2, A7, DATA, ECALL, FAULTS, T0, addi, branch_unless_equal, elf_of, lui
+from recordings import (A0, A1, A2, A7, DATA, ECALL, FAULTS, T0, addi, branch_unless_equal,
+                        elf_of, lui)
 
 FORMAT_2 = ["--format", "2", "--seed", "1"]
 SPIN = 0x6f

@@ -6,7 +6,8 @@ import random
 
 import case
 import common
-from recordings import A0, A7, DATA, ECALL, T0, T1, addi, branch_unless_equal, elf_of, load, lui, pc_of, store
+from recordings import (A0, A7, DATA, ECALL, T0, T1, addi, branch_unless_equal, elf_of, load,
+                        lui, pc_of, store)
 
 from companion.call.errors import CompanionError
 from companion.orders import whatif

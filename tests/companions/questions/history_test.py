@@ -138,9 +138,11 @@ class HistoryTest(case.Case):
         rows = common.rows(log, elf)
         begun = max([row[0] for row in rows].index(str(hart)) for hart in range(4))
         places = {(int(row[0]), int(row[1])): at for at, row in enumerate(rows)}
-        early, loaded = set(), set()
+        early = set()
+        loaded = set()
         for word in ("000112c4", "000112c8"):
-            for entry in json.loads(self.says("history", log, elf, word, "--json", "--last", "10000"))["entries"]:
+            for entry in json.loads(self.says("history", log, elf, word, "--json",
+                                              "--last", "10000"))["entries"]:
                 atomic = re.search(r"load \w+=(\w+) \| store", entry["row"])
                 if atomic:
                     self.assertEqual(entry["old"], atomic[1], entry)

@@ -15,11 +15,14 @@ WIDE = 1280
 NARROW = 800
 A4 = 718, 1040              # what is left of a page in CSS pixels, with the page's own margins
 OUTSIDE = """(() => { const box = document.getElementById('timeline').getBoundingClientRect();
-  return [...document.querySelectorAll('#timeline text')].filter(text => { const b = text.getBoundingClientRect();
+  return [...document.querySelectorAll('#timeline text')].filter(text => {
+    const b = text.getBoundingClientRect();
     return b.left < box.left - 2 || b.right > box.right + 2; }).map(text => text.textContent); })()"""
-OVERLAPS = """(() => { const all = [...document.querySelectorAll('#timeline text')].map(t => [t.textContent, t.getBoundingClientRect()]);
+OVERLAPS = """(() => { const all = [...document.querySelectorAll('#timeline text')].map(
+    t => [t.textContent, t.getBoundingClientRect()]);
   const found = []; all.forEach(([a, p], i) => all.slice(0, i).forEach(([b, q]) => {
-    if (p.left < q.right - 1 && q.left < p.right - 1 && p.top < q.bottom - 2 && q.top < p.bottom - 2) found.push(a + ' / ' + b); }));
+    if (p.left < q.right - 1 && q.left < p.right - 1 && p.top < q.bottom - 2
+        && q.top < p.bottom - 2) found.push(a + ' / ' + b); }));
   return found; })()"""
 NO_ROWS = """(() => { let bad = 0; const each = Math.ceil(40 / firstCount.size);
   for (const [hart, first] of firstCount) for (let i = 0; i < each; i++) {
@@ -219,10 +222,13 @@ class PageTest(case.Case):
     def test_contrast_of_texts(self):
         """At least 4.5:1 in both themes, as WCAG asks."""
         ratio = """((a, b) => { const paint = name => { const e = document.createElement('i');
-          e.style.color = `var(--${name})`; document.body.append(e); const c = getComputedStyle(e).color; e.remove();
-          const [r, g, b] = c.match(/\\d+/g).map(v => v / 255).map(v => v <= .03928 ? v / 12.92 : ((v + .055) / 1.055) ** 2.4);
+          e.style.color = `var(--${name})`; document.body.append(e);
+          const c = getComputedStyle(e).color; e.remove();
+          const [r, g, b] = c.match(/\\d+/g).map(v => v / 255).map(
+            v => v <= .03928 ? v / 12.92 : ((v + .055) / 1.055) ** 2.4);
           return .2126 * r + .7152 * g + .0722 * b; };
-          const [x, y] = [paint(a), paint(b)].sort((p, q) => q - p); return (x + .05) / (y + .05); })('%s', '%s')"""
+          const [x, y] = [paint(a), paint(b)].sort((p, q) => q - p);
+          return (x + .05) / (y + .05); })('%s', '%s')"""
         pairs = [(text, ground) for text in ("ink", "soft", "fault", "hot", "accent", "race")
                  for ground in ("panel", "bg")]
         pairs += [("barink", bar)

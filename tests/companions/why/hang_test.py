@@ -5,7 +5,8 @@ import re
 
 import case
 import common
-from recordings import A0, DATA, EXIT, T0, T1, T2, addi, atomic, branch_unless_equal, elf_of, load, lui, store
+from recordings import (A0, DATA, EXIT, T0, T1, T2, addi, atomic, branch_unless_equal, elf_of,
+                        load, lui, store)
 
 from companion.why import analysis
 from companion.why.analysis import analysed
