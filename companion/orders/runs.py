@@ -9,6 +9,7 @@ from typing import Deque, Dict, Iterator, List, Mapping, NamedTuple, Optional, S
 
 from ..call import streams
 from ..call.children import Process
+from ..call.jobs import Jobs
 from ..recording.log import Interval, is_fault
 from ..recording.row import Row
 from ..recording.turns import Piece, Pieces, joined, turns_of
@@ -129,35 +130,31 @@ class Runs:
     def each(self, asked: Sequence[Asked], is_deep: bool = False) -> Iterator[Done]:
         """Side by side, and told in their order."""
         waiting: Deque[Tuple[int, int]] = deque((number, 1) for number in range(len(asked)))
-        running: Dict[int, Made] = {}
+        running: Jobs[Made] = Jobs()
         ended: Dict[int, Done] = {}
         told = 0
         try:
             while told < len(asked):
                 while waiting and len(running) < self.jobs:
                     number, times = waiting.popleft()
-                    made = self.begin(number, asked[number], self.limit_of(times), times)
-                    running[made.child.pid] = made
+                    running.add(self.begin(number, asked[number], self.limit_of(times), times))
                 self.wait(running, waiting, ended, is_deep)
                 while told in ended:
                     yield ended.pop(told)
                     told += 1
         finally:
-            for made in running.values():
-                made.child.kill()
-                made.child.wait()
+            running.clear()
 
     def limit_of(self, times: int) -> int:
         return min(MOST_LIMIT, times * self.limit)
 
-    def wait(self, running: Dict[int, Made], waiting: Deque[Tuple[int, int]], ended: Dict[int, Done],
+    def wait(self, running: Jobs[Made], waiting: Deque[Tuple[int, int]], ended: Dict[int, Done],
              is_deep: bool) -> None:
         """Takes the next that ends; one that comes to its limit is made again with a greater one."""
-        process, status = os.wait()
-        made = running.pop(process, None)
-        if made is None:                        # an addr2line that failed
+        made, status = running.wait()
+        if made is None:
             return
-        found = self.take(made, made.child.end(status))
+        found = self.take(made, status)
         if found.status == STATUS_LIMIT and made.times == 1:
             waiting.appendleft((made.number, GROWN))
         else:

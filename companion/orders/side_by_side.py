@@ -6,6 +6,7 @@ from pathlib import Path
 from typing import Callable, Dict, Generator, Generic, Iterable, Iterator, Mapping, Optional, TypeVar
 
 from ..call import streams
+from ..call.jobs import Jobs
 from .record import ENDS, Quick, refusal
 from .same_end import Recording
 
@@ -52,7 +53,7 @@ class SideBySide(Generic[A, C]):
 
     def __init__(self, jobs: int) -> None:
         self.jobs, self.stopped = jobs, False
-        self.running: Dict[int, A] = {}         # by process
+        self.running: Jobs[A] = Jobs()
         self.count, self.started = 0, 0
         self.progress = streams.Progress()
 
@@ -62,8 +63,7 @@ class SideBySide(Generic[A, C]):
     def stop(self, *_: object) -> None:
         """No call is broken off, so that each child is known."""
         self.stopped = True
-        for one in self.running.values():
-            one.child.kill()
+        self.running.kill()
 
     def is_ended(self) -> bool:
         """Whether the search is to end: it was stopped, or has made all recordings that it may make."""
@@ -93,21 +93,16 @@ class SideBySide(Generic[A, C]):
             asked = next(left, None)
             if asked is None:
                 return
-            one = self.begin(asked)
-            self.running[one.child.pid] = one
+            self.running.add(self.begin(asked))
 
     def wait(self, ended: Dict[int, A]) -> None:
-        process, status = os.wait()
-        one = self.running.pop(process, None)
-        if one is None:                         # somebody ended the group's own process
-            return
-        one.status = one.child.end(status)
-        ended[one.number] = one
+        one, status = self.running.wait()
+        if one:
+            one.status = status
+            ended[one.number] = one
 
     def clear(self, ended: Mapping[int, A]) -> None:
-        for one in self.running.values():
-            one.child.kill()
-            one.child.wait()
-        for one in [*self.running.values(), *ended.values()]:
-            one.remove()
+        left = [*self.running, *ended.values()]
         self.running.clear()
+        for one in left:
+            one.remove()

@@ -12,6 +12,7 @@ from typing import Callable, Iterator, NamedTuple, Optional, Sequence
 
 from ..call import streams
 from ..call.children import Forked, Process
+from ..call.jobs import Jobs
 from ..call.saving import take_together
 from ..recording.cause import Cause, cause_of_file
 from ..recording.opened import Program
@@ -151,7 +152,7 @@ class TrialSearch:
                  folders: Sequence[str]) -> None:
         self.words, self.numbers, self.kinds, self.wanted = words, numbers, kinds, wanted
         self.jobs, self.folders = jobs, folders
-        self.running: dict[int, Trial] = {}     # by process
+        self.running: Jobs[Trial] = Jobs()
         self.found: Optional[Trial] = None
         self.kept: dict[Ending, Trial] = {}
         self.waiting: deque[Plan] = deque()
@@ -169,7 +170,7 @@ class TrialSearch:
 
     def next_plan(self) -> Optional[Plan]:
         """The next that can begin now, if there is one."""
-        is_free = len(self.kinds) == 1 or not any(trial.plan.kind is Kind.THREADS for trial in self.running.values())
+        is_free = len(self.kinds) == 1 or not any(trial.plan.kind is Kind.THREADS for trial in self.running)
         if self.waiting and is_free:
             return self.waiting.popleft()
         for plan in self.plans:
@@ -181,8 +182,7 @@ class TrialSearch:
     def stop(self, number: int, _: object) -> None:
         """Ctrl-C, or another signal. No call is broken off, so that each child is known."""
         self.stopped = number
-        for trial in self.running.values():
-            trial.child.kill()
+        self.running.kill()
 
     def is_given_up(self, trial: Trial) -> bool:
         if self.found is None or trial is self.found:
@@ -190,7 +190,7 @@ class TrialSearch:
         return Kind.THREADS in (trial.plan.kind, self.found.plan.kind) or trial.plan > self.found.plan
 
     def watch(self, trial: Trial) -> None:
-        self.running[trial.child.pid] = trial
+        self.running.add(trial)
         if self.stopped:
             trial.child.kill()
 
@@ -205,7 +205,7 @@ class TrialSearch:
         if self.found is not None:
             self.found.remove()
         self.found = trial
-        for other in self.running.values():
+        for other in self.running:
             if self.is_given_up(other):
                 other.child.kill()
 
@@ -261,23 +261,20 @@ class TrialSearch:
             try:
                 self.start()
                 while self.running:
-                    process, status = os.wait()
-                    if process not in self.running:     # an addr2line that failed
+                    trial, status = self.running.wait()
+                    if trial is None:
                         continue
-                    trial = self.running.pop(process)
-                    self.take(trial, trial.child.end(status))
+                    self.take(trial, status)
                     self.start()
                     self.count()
                     self.tell()
             finally:
-                for trial in self.running.values():
-                    trial.child.kill()
-                    trial.child.wait()
+                self.running.clear()
                 self.count_rest()
 
     def count(self) -> None:
         """Counts those below all that are still to end, and below the one that was found."""
-        open_ones = [trial.plan for trial in self.running.values()]
+        open_ones = [trial.plan for trial in self.running]
         open_ones += [self.found.plan] if self.found else list(self.waiting)[:1]
         self.endings.count_while(lambda plan: plan < min(open_ones, default=plan))
 

@@ -97,6 +97,12 @@ class Parts(unittest.TestCase):
             if isinstance(node.func, ast.Name):
                 self.assertNotIn(node.func.id, OPENING, place)
 
+    def test_children_are_waited_for_in_one_place(self) -> None:
+        """The next of several that ends, which call/jobs.py tells."""
+        for place, node in calls_outside("call"):
+            if isinstance(node.func, ast.Attribute) and isinstance(node.func.value, ast.Name):
+                self.assertNotEqual((node.func.value.id, node.func.attr), ("os", "wait"), place)
+
     def test_none_stands_outside(self) -> None:
         self.assertEqual(sorted(name for name in os.listdir(COMPANION) if name.endswith(".py")),
                          ["__init__.py", "__main__.py", "library.py"])
