@@ -5,14 +5,23 @@ from typing import Optional
 
 from .checks import Checks
 from .judge import Access
-from .operation import SP, Operation
+from .operation import Operation
 from .parts import Limit
 from .state import ENDED, GOOD, SAVED, ZEROS, Act, Hart, Thing, nothing, value_of
 from .sums import frame_thing
 from .value import ABSOLUTE
 from .value import FRAME as IN_FRAME
+from ..recording.instruction import SP
 
 SAVED_WORD = bytes((SAVED,)) * 4
+
+
+def is_bad(size: int, register: int) -> str:
+    """Whether an access of so many bytes has to be looked at, as text; `register` has the pointer,
+    or it is 0."""
+    by_bytes = f"states[place:place + {size}] != zeros{size}"
+    outside = f"(place < thing.low or place + {size} > thing.high)"
+    return f"{by_bytes} or (thing := tags[{register}]) is not None and {outside}" if register else by_bytes
 
 
 class Accesses:
@@ -48,7 +57,7 @@ class Accesses:
         """Of a place that is the program's own: nothing can be wrong, but bits may be undefined that were copied there."""
         hart, checks = self.hart, self.checks
         tags, rows, words, states = hart.tags, hart.rows, checks.memory.tags, checks.memory.states
-        rd, size, is_word = one.rd, one.size, one.size == 4
+        rd, size, is_word = one.rd, one.width, one.width == 4
         if not rd:
             return nothing
 
@@ -61,13 +70,15 @@ class Accesses:
             elif states[address] > ENDED:
                 return checks.undefined.loaded(hart, one, address, checks.memory.undefined_bits(address, size))
             return None
+        if rd != SP:
+            hart.texts[act] = "states[place] > ENDED", loaded(rd, is_word)
         return act
 
     def load(self, one: Operation, limit: Optional[Limit]) -> Act:
         """`limit` is what tells the thing that an address misses; without it the register's tag does."""
         hart, checks = self.hart, self.checks
         tags, rows, states, words = hart.tags, hart.rows, checks.memory.states, checks.memory.tags
-        rd, rs, size, zeros = one.rd, one.rs1, one.size, ZEROS[one.size]
+        rd, rs, size, zeros = one.rd, one.rs1, one.width, ZEROS[one.width]
         is_word = size == 4
 
         def act(row: bytes) -> Optional[bool]:
@@ -84,21 +95,24 @@ class Accesses:
                 if bits:
                     return checks.undefined.loaded(hart, one, address, bits)
             return None
+        if rd not in (0, SP) and limit in (None, no_limit):
+            hart.texts[act] = is_bad(size, 0 if limit else rs), loaded(rd, is_word)
         return act
 
     def of_store(self, one: Operation) -> Act:
         """If sp itself is stored, that makes a pointer to the frame's first variable."""
-        act, is_made = self.store_of(one), one.rs2 == SP and one.size == 4
+        act, is_made = self.store_of(one), one.rs2 == SP and one.width == 4
         value = one.other if is_made and one.other and one.other.to == IN_FRAME and not one.other.indexed else None
         thing_at = frame_thing(self.checks, self.hart, one, value) if value else None
         if thing_at is None:
             return act
         hart, made = self.hart, thing_at
 
-        def store(row: bytes) -> None:
+        def store(row: bytes) -> Optional[bool]:
             hart.tags[SP] = made(hart.sp)
-            act(row)
+            is_code = act(row)
             hart.tags[SP] = None
+            return is_code
         return store
 
     def store_of(self, one: Operation) -> Act:
@@ -113,11 +127,11 @@ class Accesses:
     def plain_store(self, one: Operation, is_own: bool) -> Act:
         """To a place that is the program's own; of the frame it is written then, or holds a saved register."""
         hart, checks = self.hart, self.checks
-        memory, tags, rs2, size = checks.memory, hart.tags, one.rs2, one.size
+        memory, tags, rs2, size = checks.memory, hart.tags, one.rs2, one.width
         states, words, sorts = memory.states, memory.tags, checks.pointers.sorts
         zeros, saves, is_word = ZEROS[size], one.saves, size == 4
 
-        def act(row: bytes) -> None:
+        def act(row: bytes) -> Optional[bool]:
             address = int(row[-17:-9], 16)
             if is_own and saves and hart.is_own:
                 states[address:address + 4] = SAVED_WORD
@@ -128,22 +142,32 @@ class Accesses:
                 memory.fill(address, address + size, GOOD)
             words[address >> 2] = tag = tags[rs2] if is_word else None
             if sorts[address >> 2]:
-                checks.pointers.stored(hart, one, row, address, tag)
+                return checks.pointers.stored(hart, one, row, address, tag)
+            return None
+        if not saves:
+            writes = f"states[place:place + {size}] = zeros{size}; " if is_own else ""
+            test = "sorts[place >> 2]" if is_own else "sorts[place >> 2] or states[place] > ENDED"
+            hart.texts[act] = test, writes + stored(rs2, is_word)
         return act
 
     def store(self, one: Operation, limit: Optional[Limit]) -> Act:
         hart, checks = self.hart, self.checks
-        memory, tags, rs, rs2, size, zeros = checks.memory, hart.tags, one.rs1, one.rs2, one.size, ZEROS[one.size]
+        memory, tags, rs, rs2 = checks.memory, hart.tags, one.rs1, one.rs2
+        size, zeros = one.width, ZEROS[one.width]
         states, words, sorts, is_word = memory.states, memory.tags, checks.pointers.sorts, size == 4
 
-        def act(row: bytes) -> None:
+        def act(row: bytes) -> Optional[bool]:
             address = int(row[-17:-9], 16)
             thing = tags[rs] if limit is None else limit(hart, address)
             if states[address:address + size] != zeros or thing is not None and (address < thing.low or address + size > thing.high):
                 checks.judge.store(Access(hart, row, one, address, size, True, rs), thing)
             words[address >> 2] = tag = tags[rs2] if is_word else None
             if sorts[address >> 2]:
-                checks.pointers.stored(hart, one, row, address, tag)
+                return checks.pointers.stored(hart, one, row, address, tag)
+            return None
+        if limit in (None, no_limit):
+            test = f"sorts[place >> 2] or {is_bad(size, 0 if limit else rs)}"
+            hart.texts[act] = test, stored(rs2, is_word)
         return act
 
     def of_atomic(self, one: Operation) -> Act:
@@ -165,6 +189,14 @@ class Accesses:
                 tags[one.rd] = old if gives else None
                 hart.rows[one.rd] = row
         return act
+
+
+def loaded(register: int, is_word: bool) -> str:
+    return f"tags[{register}] = {'words[place >> 2]' if is_word else None}"
+
+
+def stored(register: int, is_word: bool) -> str:
+    return f"words[place >> 2] = {f'tags[{register}]' if is_word else None}"
 
 
 def no_limit(_: Hart, __: int) -> Optional[Thing]:

@@ -9,24 +9,28 @@ from .accesses import Accesses
 from .calls import Calls
 from .checks import Checks
 from .judge import Access
-from .operation import A0, ALU, AMO, ECALL, JAL, JALR, LOAD, SP, STORE, Operation
+from .operation import Operation
 from .state import Act, Hart, nothing
 from .sums import Sums
 from ..recording.cut import pc_of, word_of
+from ..recording.instruction import A0, ALU, AMO, CALL, JUMP, LOAD, SP, STORE
 
 FAULT = b"fault"            # the key of a row that ended in a fault
+KEY = 17                    # bytes of an address and a word in a row
 
 
 class Actions(Dict[bytes, Act]):
-    """{address and word of an instruction, as rows have them: what a row of it does}, of a hart. `careful` are those while a
-    register has bits that nobody wrote."""
+    """{address and word of an instruction, as rows have them: what a row of it does}, of a hart.
+
+    careful  those while a register has bits that nobody wrote
+    begin    where rows have their address, of those that are read now"""
 
     def __init__(self, checks: Checks, hart: Hart) -> None:
         super().__init__()
-        self.checks, self.hart, self.careful = checks, hart, Careful(self)
+        self.checks, self.hart, self.careful, self.begin = checks, hart, Careful(self), 0
         sums, accesses, calls = Sums(checks, hart), Accesses(checks, hart), Calls(checks, hart)
-        self.makers = {LOAD: accesses.of_load, STORE: accesses.of_store, AMO: accesses.of_atomic, JAL: calls.of_jump,
-                       JALR: calls.of_jump, ECALL: calls.of_system_call}
+        self.makers = {LOAD: accesses.of_load, STORE: accesses.of_store, AMO: accesses.of_atomic,
+                       JUMP: calls.of_jump, CALL: calls.of_system_call}
         self.sums = sums
         checks.renew.append(self.renew)
         self.renew()
@@ -34,11 +38,8 @@ class Actions(Dict[bytes, Act]):
     def renew(self) -> None:
         self.clear()
         self.careful.clear()
+        self.hart.texts.clear()
         self[FAULT] = self.fault
-
-    def now(self) -> Dict[bytes, Act]:
-        """Those of the next row."""
-        return self.careful if self.hart.undefined else self
 
     def operation(self, key: bytes) -> Operation:
         return self.checks.operation(int(key[:8], 16), 0 if key[9:10] == b"-" else int(key[9:], 16))
@@ -80,8 +81,8 @@ class Actions(Dict[bytes, Act]):
         is_access = one.kind in (LOAD, STORE, AMO)
         checks.undefined.used(hart, one, row, (one.rs1,), "an address depends" if is_access else "a jump depends")
         thing = hart.tags[one.rs1] if is_access else None
-        if thing is not None and not thing.holds(int(row[-8:], 16), one.size):
-            checks.judge.outside(Access(hart, row, one, int(row[-8:], 16), one.size, one.kind != LOAD, one.rs1), thing)
+        if thing is not None and not thing.holds(int(row[-8:], 16), one.width):
+            checks.judge.outside(Access(hart, row, one, int(row[-8:], 16), one.width, one.kind != LOAD, one.rs1), thing)
 
 
 class Careful(Dict[bytes, Act]):

@@ -35,6 +35,10 @@ class Answer:
             said.append(NO_ALLOCATOR)
         if run.program.dwarf.left_out or not run.program.entries:
             said.append("Types and variables aren't known of all code: it has no debug information that can be read (gcc -g).")
+        for hook in run.heap.hooks.values():
+            times = run.program.inlined[hook.name]
+            said += [f"{hook.name} was inlined in {counted(times, 'place')}, too: "
+                     "what it does there isn't known."] if times else []
         said += [f"Unknown: {number(times)} times {what}." for what, times in run.findings.unknown.items()]
         inside = [hart for hart in run.harts if hart.awaited]
         return said + [f"Hart {hart.number} is in {hart.awaited.name} to the end, whose rows aren't looked at." for hart in inside

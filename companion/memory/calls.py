@@ -5,8 +5,10 @@ from typing import Optional
 
 from .checks import Checks
 from .judge import Access
-from .operation import A0, A1, A7, LINKS, Operation
-from .state import BESIDE, FREED, GOOD, SAVED, UNDEFINED, ZEROS, Act, Hart, Thing, nothing, value_of
+from .operation import Operation
+from .state import (
+    BESIDE, CODE, FREED, GOOD, SAVED, UNDEFINED, ZEROS, Act, Hart, Thing, nothing, value_of)
+from ..recording.instruction import A0, A1, A7
 from ..recording.log import FAILED, READ_CALL, WRITE_CALL
 
 
@@ -15,14 +17,15 @@ class Calls:
         self.checks, self.hart = checks, hart
 
     def of_jump(self, one: Operation) -> Act:
-        hart, returns, rd, behind = self.hart, self.hart.returns, one.rd, one.pc + 4
-        if one.is_return:
+        hart, returns, rd = self.hart, self.hart.returns, one.rd
+        is_call, behind = one.call, one.pc + 4
+        if one.ret:
             return self.of_return(one)
 
         def act(row: bytes) -> None:
             hart.tags[rd] = None
             hart.rows[rd] = row
-            if rd in LINKS:
+            if is_call:
                 returns.append(behind)
         return act if rd else nothing
 
@@ -78,6 +81,8 @@ class Calls:
         if not bad:
             memory.fill(access.address, end, GOOD)
         memory.forget_tags(access.address & ~3, end)
+        if CODE in self.checks.pointers.sorts[access.address >> 2:(end + 3) >> 2]:
+            self.checks.forget_code()
 
     def write(self, access: Access) -> None:
         """A `write` call takes bytes."""

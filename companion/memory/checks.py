@@ -1,32 +1,55 @@
-"""All that looks at rows, of all harts."""
+"""What the checks of all harts share: what the program tells, and what is kept along the rows."""
 from __future__ import annotations
 
-from typing import Callable
+from typing import Callable, Mapping
 
+from ..recording.log import Log
+from .facts import Facts
+from .findings import Findings
+from .heap import Heap, Hook
 from .judge import Judge
 from .operation import Operation
 from .parts import Parts
 from .pointers import PointerWords
+from .program import Program
 from .stacks import Stacks
+from .state import CODE, Hart, Memory
 from .undefined import UndefinedBits
 
 
 class Checks:
-    """copies   the first address of memcpy, if it isn't memmove as well
+    """is_whole  whether all rows of the run are read: else what was taken, written and called before
+             isn't known
+    copies   the first address of memcpy, if it isn't memmove as well
     renew    what forgets a hart's functions of instructions, once the code of one was changed"""
 
-    def __init__(self, judge: Judge, stacks: Stacks, pointers: PointerWords) -> None:
-        self.judge, self.stacks, self.pointers = judge, stacks, pointers
-        self.facts, self.memory, self.heap = judge.facts, judge.memory, judge.heap
-        self.undefined, self.parts = UndefinedBits(judge), Parts(judge.facts)
+    def __init__(self, log: Log, program: Program, hooks: Mapping[int, Hook]) -> None:
         self.renew: list[Callable[[], None]] = []
-        named = self.facts.program.function_named
+        firsts = log.first_intervals()
+        self.program, self.facts = program, Facts(program)
+        self.memory, self.findings = Memory(log.memory), Findings()
+        is_begun = all(one.start == 0 for one in firsts.values())
+        self.is_whole = is_begun and not log.dropped and not log.unread
+        self.harts = [Hart(number, firsts[number].registers if number in firsts else ())
+                      for number in range(log.harts)]
+        self.heap = Heap(program, self.memory, self.findings, hooks, self.is_whole)
+        self.stacks = Stacks(program, self.memory, self.heap, self.findings, self.harts)
+        self.pointers = PointerWords(program, self.memory, self.findings, self.forget_code)
+        self.judge = Judge(self.facts, self.memory, self.heap, self.findings)
+        self.undefined, self.parts = UndefinedBits(self.judge), Parts(self.facts)
+        named = program.function_named
         self.copies = named("memcpy") if named("memcpy") != named("memmove") else 0
 
     def operation(self, pc: int, word: int) -> Operation:
         """The instruction of a row. If its function's code was changed, what was known of it is forgotten."""
         changed = len(self.facts.changed)
         found = self.facts.at(pc, word)
-        for renew in self.renew if len(self.facts.changed) > changed else ():
-            renew()
+        if len(self.facts.changed) > changed:
+            self.forget_code()
         return found
+
+    def forget_code(self) -> None:
+        sorts = self.pointers.sorts
+        sorts[:] = sorts.replace(bytes((CODE,)), b"\0")
+        for renew in self.renew:
+            renew()

@@ -7,8 +7,9 @@ from __future__ import annotations
 from typing import Callable, Optional, Tuple
 
 from ..recording.cut import count_of
+from ..recording.instruction import ALU, BRANCH, JUMP
 from .facts import Facts
-from .operation import ALU, Operation
+from .operation import Operation
 from .state import Asked, Hart, value_of
 
 ROUNDED = 16                # bytes: sp is a multiple of it
@@ -21,7 +22,7 @@ def writer(facts: Facts, before: int, register: int) -> Optional[Operation]:
     """The instruction that made what a register has there, in straight code without a call."""
     for pc in range(before - 4, before - 4 * REACH - 4, -4):
         one = facts.operations.get(pc)
-        if one is None or one.rd == register or one.is_jump:
+        if one is None or one.rd == register or one.kind in (BRANCH, JUMP):
             return one if one is not None and one.kind == ALU and one.rd == register else None
     return None
 
@@ -89,7 +90,7 @@ def pointer_to(facts: Facts, one: Operation) -> Tuple[int, int]:
     added, register = one.imm, one.rd
     for pc in range(one.pc + 4, one.pc + 4 * REACH, 4):
         following = facts.operations.get(pc)
-        if following is None or following.is_jump:
+        if following is None or following.kind in (BRANCH, JUMP):
             break
         bits = following.imm if following.name == "srli" else (-following.imm).bit_length() - 1 if following.name == "andi" else 0
         if following.rs1 == register and following.name == "addi" and following.rd == register:

@@ -5,7 +5,8 @@ from __future__ import annotations
 
 from typing import Hashable, NamedTuple, Optional
 
-from .operation import A0, ALU, BRANCH, CALLEE_SAVED, CALLER_SAVED, GP, JAL, JALR, LOAD, SP, STORE, T0, Operation
+from ..recording.instruction import A0, ALU, JUMP, LOAD, SP, STORE
+from .operation import CALLEE_SAVED, CALLER_SAVED, GP, T0, Operation
 from .program import LONGEST_FUNCTION, Function, Program
 from .value import ABSOLUTE, ENTRY, FRAME, NUMBER, POINTER, UNKNOWN, WILD, State, Value, added, meet, mixed, moved, multiplied, subtracted
 
@@ -27,12 +28,16 @@ class Facts:
     def __init__(self, program: Program) -> None:
         self.program = program
         self.operations: dict[int, Operation] = {}
+        self.kept: dict[tuple[int, int], Operation] = {}       # {(address, word): instruction that ran}
         self.slots: dict[int, dict[int, int]] = {}
         self.changed: set[int] = set()
         self.pointer = next((each.address for each in program.elf.symbols if each.name == "__global_pointer$"), None)
 
     def at(self, pc: int, word: int) -> Operation:
         """The instruction of an address, which a row has with this word."""
+        found = self.kept.get((pc, word))
+        if found is not None:
+            return found
         function = self.program.function_at(pc)
         if function.first not in self.slots:
             self.slots[function.first] = {}
@@ -43,11 +48,13 @@ class Facts:
             if found is not None:
                 self.forget(function)
             found = self.operations[pc] = Operation(pc, word)
+        self.kept[pc, word] = found
         return found
 
     def forget(self, function: Function) -> None:
         """Its code was changed while it ran."""
         self.changed.add(function.first)
+        self.kept.clear()
         self.slots[function.first] = {}
         for pc in range(function.first, function.end, 4):
             found = self.operations.get(pc)
@@ -78,8 +85,9 @@ class Facts:
             kind = program.types.pointee_at(base.more, offset)
         elif base.to == ABSOLUTE:
             there = program.object_at(offset)
-            if there and there.begin in program.types_of_objects:
-                kind = program.types.pointee_at(program.types_of_objects[there.begin], offset - there.begin)
+            if there:
+                of = program.objects.get(there.address)
+                kind = program.types.pointee_at(of, offset - there.address)
         return Value(POINTER, 0, False, kind) if kind else None
 
 
@@ -92,8 +100,8 @@ class Flow:
         for pc in self.code:
             facts.operations[pc] = Operation(pc, self.program.elf.word(pc) or 0)
         self.operations = facts.operations
-        jumps = (one for one in map(self.operations.__getitem__, self.code) if one.kind == BRANCH or one.kind == JAL and not one.rd)
-        self.leaders = {one.imm for one in jumps}
+        codes = map(self.operations.__getitem__, self.code)
+        self.leaders = {one.leads for one in codes if one.leads and not one.rd}
         self.into: dict[int, dict[int, State]] = {}     # {place: {where from: state}}
         self.visits: dict[int, int] = {}
         self.work: list[int] = []
@@ -162,11 +170,11 @@ class Flow:
                 state.setdefault(register, Value(POINTER, 0, False, kind))
             one.known, one.base, one.other, one.stack = True, state.get(one.rs1), state.get(one.rs2), state.get(SP)
             self.take(one, state)
-            if one.kind == BRANCH or one.kind == JAL and not one.rd:
-                self.lead(Edge(pc, one.imm), state)
-            if one.kind == JALR and not one.rd and not one.is_return:
-                self.jump = state if self.jump is None else meet(self.jump, state)
-            if one.kind in (JAL, JALR) and not one.rd:
+            if one.leads and not one.rd:
+                self.lead(Edge(pc, one.leads), state)
+            if one.kind == JUMP and not one.rd:
+                if not one.leads and not one.ret:
+                    self.jump = state if self.jump is None else meet(self.jump, state)
                 return
             pc += 4
             if pc in self.leaders:
@@ -185,19 +193,19 @@ class Flow:
 
     def take(self, one: Operation, state: State) -> None:
         """Changes a state as an instruction does."""
-        if one.kind in (JAL, JALR):
+        if one.kind == JUMP:
             self.call(one, state)
         elif one.kind == STORE:
             key = self.slot(one.base, one.imm)
             if key is not None:
-                put(state, key, one.other if one.size == 4 else None)
-        elif one.rd and one.kind != BRANCH:
+                put(state, key, one.other if one.width == 4 else None)
+        elif one.rd:
             # (behind memory that a function asks for on its stack the frame's places aren't told by sp)
             known = None if one.takes_memory else self.facts.result(one) if one.kind == ALU else self.loaded(one, state)
             put(state, one.rd, known)
 
     def loaded(self, one: Operation, state: State) -> Optional[Value]:
-        if one.kind != LOAD or one.size != 4 or one.base is None:
+        if one.kind != LOAD or one.width != 4 or one.base is None:
             return None
         key = self.slot(one.base, one.imm)
         if key is not None:
@@ -216,7 +224,7 @@ class Flow:
         """What a call leaves. One that saves registers moves sp, and leaves what its caller had."""
         if not one.rd:
             return
-        name = self.program.symbols[one.imm].name if one.kind == JAL and one.imm in self.program.symbols else ""
+        name = self.program.symbols[one.leads].name if one.leads in self.program.symbols else ""
         if one.rd == T0 and name.startswith(SAVE):
             count = int(name[len(SAVE):]) if name[len(SAVE):].isdigit() else 0
             size = 16 * (1 + (count >= 4) + (count >= 8) + (count >= 12))
@@ -224,7 +232,7 @@ class Flow:
             return
         for register in CALLER_SAVED:
             state.pop(register, None)
-        kind = self.program.result(one.imm) if one.kind == JAL else 0
+        kind = self.program.result(one.leads)
         if kind:
             state[A0] = Value(POINTER, 0, False, kind)
 
@@ -233,7 +241,7 @@ class Flow:
         saved: dict[int, list[Operation]] = {}
         restored: set[tuple[int, int]] = set()
         for one in map(self.operations.__getitem__, self.code):
-            if one.kind in (LOAD, STORE) and one.size == 4 and one.base and one.base.to == FRAME and not one.base.indexed:
+            if one.kind in (LOAD, STORE) and one.width == 4 and one.base and one.base.to == FRAME and not one.base.indexed:
                 if one.kind == STORE and one.other == Value(ENTRY, one.rs2):
                     saved.setdefault(one.base.offset + one.imm, []).append(one)
                 elif one.kind == LOAD and one.rd in CALLEE_SAVED:

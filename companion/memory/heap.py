@@ -3,15 +3,16 @@ from __future__ import annotations
 
 import bisect
 import re
-from typing import Dict, List, NamedTuple, Optional, Sequence
+from typing import Dict, List, Mapping, NamedTuple, Optional, Sequence
 
 from ..call.errors import MISSING, REFUSED, CompanionError
 from ..call.options import whole
-from ..call.text import clean
+from ..call.text import clean, counted
 from ..recording.cut import count_of, pc_of
 from ..recording.dwarf import PARAMETER, POINTER
+from ..recording.instruction import A0, RA
 from .findings import NO_BLOCK, TWICE, Finding, Findings
-from .operation import A0, FULL, RA
+from .operation import FULL
 from .program import Program
 from .state import (
     BESIDE, BLOCK, FREED, FRAME, GLOBAL, GOOD, NULL, UNDEFINED, UNWRITTEN, Awaited, Event, Hart, Memory, Thing)
@@ -60,9 +61,11 @@ def named_hook(program: Program, option: str, word: str, does: str) -> tuple[int
     form = "FN, FN:N or FN:=BYTES" if option == "--alloc" else "FN or FN:N"
     if not told or told[2] and option == "--free":
         raise CompanionError(f"{option}: {clean(word)!r} has to be {form}", REFUSED)
-    at = program.function_named(told[1])
+    at, times = program.function_named(told[1]), program.inlined[told[1]]
     if not at:
-        raise CompanionError(f"{option}: the program has no function {clean(told[1])}", MISSING)
+        inlined = f": it was inlined in {counted(times, 'place')}, where nothing tells what it gave"
+        said = f"{option}: the program has no function {clean(told[1])}"
+        raise CompanionError(said + (inlined + " (gcc -fno-inline)" if times else ""), MISSING)
     if told[2]:
         return at, Hook(told[1], does, 0, whole(told[3], 1, FULL, option), False)
     argument = whole(told[3] or "1", 1, MOST_ARGUMENTS, option) - 1
@@ -85,8 +88,10 @@ class Heap:
     gone    {address: the last block there that was given back}
     failed  calls that gave 0, with the size, and how much was live"""
 
-    def __init__(self, program: Program, memory: Memory, findings: Findings, hooks: Dict[int, Hook], is_whole: bool) -> None:
-        self.program, self.memory, self.findings, self.hooks, self.is_whole = program, memory, findings, hooks, is_whole
+    def __init__(self, program: Program, memory: Memory, findings: Findings, hooks: Mapping[int, Hook],
+                 is_whole: bool) -> None:
+        self.program, self.memory, self.findings = program, memory, findings
+        self.hooks, self.is_whole = hooks, is_whole
         self.live: Dict[int, Thing] = {}
         self.begins: List[int] = []
         self.gone: Dict[int, Thing] = {}
@@ -123,16 +128,17 @@ class Heap:
         when = Event(hart.number, count_of(row), pcs)
         arguments = [hart.value(A0 + at) for at in range(MOST_ARGUMENTS)] + [None] * 3
         first, second, third = arguments[hook.argument:hook.argument + 3]
-        old, size, slot = None, first, b""
+        old, size, slot, does = None, first, b"", hook.does
         if hook.does in (GIVES_BACK, RESIZES) and first:
             old = self.given(hart, first, hook, when)
         if hook.does == RESIZES:
             size = product(second, third) if hook.name == "reallocarray" else second
+            does = CLEARS if old is None and first != 0 else does       # what it copies isn't known
         elif hook.does == CLEARS:
             size = product(first, second)
         elif hook.does == STORES:
             slot = b"store %08x=" % (hart.value(A0) or 0)
-        hart.awaited = Awaited(hook.does, hook.name, b"%08x" % back, hook.size or size, old, when, slot)
+        hart.awaited = Awaited(does, hook.name, b"%08x" % back, hook.size or size, old, when, slot)
 
     def given(self, hart: Hart, address: int, hook: Hook, when: Event) -> Optional[Thing]:
         """The live block that is given back or resized, or None: then something is wrong, or it isn't known."""

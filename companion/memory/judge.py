@@ -2,16 +2,16 @@
 from __future__ import annotations
 
 import re
-from typing import Hashable, Iterator, List, NamedTuple, Optional
+from typing import Hashable, Iterator, NamedTuple, Optional
 
 from ..recording.cut import pc_of, word_of
-from ..recording.instruction import NAMES
+from ..recording.instruction import ALU, AMO, BRANCH, JUMP, LOAD, NAMES, SP, STORE
 from .facts import Facts
 from .findings import (
     AFTER_RETURN, AFTER_SCOPE, FREED as FREED_KIND, GLOBAL as GLOBAL_KIND, HEAP, MEMBER as MEMBER_KIND, NULL as NULL_KIND, OVERLAP, REGISTER, STACK,
     Finding, Findings)
 from .heap import Heap
-from .operation import ALU, AMO, BRANCH, FULL, JAL, JALR, LOAD, SP, STORE, Operation
+from .operation import FULL, Operation
 from .state import (
     BESIDE, BLOCK, ENDED, FORBIDDEN, FRAME, FREED, GLOBAL, GOOD, MEMBER, NULL, SAVED, UNDEFINED, UNWRITTEN, Hart, Memory,
     Thing, value_of)
@@ -48,17 +48,16 @@ class Recent:
     """The rows of this chunk and of the one before."""
 
     def __init__(self) -> None:
-        self.rows: List[bytes] = []
-        self.before: List[bytes] = []
+        self.text = self.before = b""
 
-    def add(self, rows: List[bytes]) -> None:
-        self.before, self.rows = self.rows, rows
+    def add(self, text: bytes) -> None:
+        self.before, self.text = self.text, text
 
     def back(self, hart: Hart, row: bytes, most: int) -> Iterator[bytes]:
         """So many rows of a hart before a row, the last one first."""
         mine = b"%d " % hart.number
-        at = self.rows.index(row) if row in self.rows else 0
-        found = (each for rows in (self.rows[:at], self.before) for each in reversed(rows) if each.startswith(mine))
+        texts = self.text[:max(0, self.text.find(b"\n" + row))], self.before
+        found = (each for text in texts for each in reversed(text.split(b"\n")) if each.startswith(mine))
         for _, each in zip(range(most), found):
             yield each
 
@@ -206,7 +205,7 @@ class Judge:
             if one.kind == ALU and one.pc in self.made:
                 return one.pc, "made"
             if one.kind != ALU or one.name not in ("addi", "add", "sub") or not one.rs1:
-                return (one.pc, "made") if one.kind not in (JAL, JALR) else (0, "")
+                return (one.pc, "made") if one.kind != JUMP else (0, "")
             if one.name == "addi" and not -ANCHOR <= one.imm < size and one.rs1 != SP:
                 return None
             register = one.rs1
@@ -221,12 +220,12 @@ class Judge:
     def is_loops_end(self, access: Access, thing: Thing) -> bool:
         """Whether a loop over one object ended with a pointer to its end, which the compiler takes for the next one's begin."""
         after = self.program.object_at(thing.end) or self.program.object_at(thing.end + NEXT - 1)
-        if after is None or after.begin - thing.end > NEXT:
+        if after is None or after.address - thing.end > NEXT:
             return False
         registers, is_equal, later = {access.base}, False, access.one.pc
         for row in self.recent.back(access.hart, access.row, ROWS_OF_LOOP):
             one = self.facts.at(pc_of(row), word_of(row))
-            if one.kind == BRANCH and {one.rs1, one.rs2} & registers and one.name == ("beq" if later == one.imm else "bne"):
+            if one.kind == BRANCH and {one.rs1, one.rs2} & registers and one.name == ("beq" if later == one.leads else "bne"):
                 is_equal = True                 # to what it was compared with: is that the end?
             later = one.pc
             if one.kind != ALU or one.rd not in registers:

@@ -17,6 +17,8 @@ BEFORE = 16                 # bytes: so close before an object another may end w
 NEAR = 4                    # bytes: a place so little before a variable may be meant as its begin, less an index
 FAR = 65536                 # bytes: an access farther than this is by an index that wasn't one
 Limit = Callable[[Hart, int], Optional[Thing]]  # of an access's address: the thing that it misses, or None
+# The same of an address, and of where a structure begins, or one of several behind each other.
+Missed = Callable[[int, int], Optional[Thing]]
 
 
 class Inner(NamedTuple):
@@ -54,19 +56,19 @@ class Parts:
         there = self.program.object_at(address)
         if there is None:
             return None
-        before = self.program.object_before(there.begin)
-        low = before.begin if before and 0 <= there.begin - before.end < BEFORE else there.begin
-        if address == there.begin:
+        before = self.program.object_before(there.address)
+        low = before.address if before and 0 <= there.address - before.end < BEFORE else there.address
+        if address == there.address:
             thing = Thing(low, there.end, GLOBAL, there.name)
-            thing.begin, thing.end = there.begin, there.end
+            thing.begin, thing.end = there.address, there.end
             return thing
-        kind, offset = self.program.types_of_objects.get(there.begin), address - there.begin
+        kind, offset = self.program.objects.get(there.address), address - there.address
         part = self.types.array_at(kind, offset)
         if part is None or part.begin != offset:
             return None
         first = min((each.begin for each in self.types.arrays(kind) if each.end == offset), default=offset)
-        thing = Thing(there.begin + first if first else low, there.begin + part.end, GLOBAL, there.name + part.path)
-        thing.begin, thing.end, thing.is_part = address, there.begin + part.end, True
+        thing = Thing(there.address + first if first else low, there.address + part.end, GLOBAL, there.name + part.path)
+        thing.begin, thing.end, thing.is_part = address, there.address + part.end, True
         return thing
 
     def made_global(self, one: Operation, value: Value) -> Optional[Thing]:
@@ -77,10 +79,10 @@ class Parts:
     def indexed_global(self, one: Operation, base: Value) -> Optional[Limit]:
         """The limit of an access by a constant and an index."""
         thing = self.global_thing(base.offset + one.imm)
-        kind = self.program.types_of_objects.get(thing.begin) if thing else None
+        kind = self.program.objects.get(thing.begin) if thing else None
         if thing is None or kind is not None and not thing.is_part and not self.types.is_array(kind):
             return None                         # nothing that an index is added to: the constant is another object's
-        missed, low, high, size = thing, thing.low, thing.high, one.size
+        missed, low, high, size = thing, thing.low, thing.high, one.width
         if base.more and one.imm:
             other = self.global_thing(base.offset)
             if other is not None and (other.begin > thing.begin or other.end <= thing.begin):
@@ -98,9 +100,10 @@ class Parts:
     def elements(self, address: int) -> Optional[Elements]:
         """The global array of structures that an address is in: an object, or a member of one that is in no other array."""
         there = self.program.object_at(address)
-        if there is None or there.begin not in self.program.types_of_objects:
+        if there is None:
             return None
-        return self.types.structures_at(self.program.types_of_objects[there.begin], there.begin, address, there.name)
+        kind = self.program.objects.get(there.address)
+        return self.types.structures_at(kind, there.address, address, there.name)
 
     def with_before(self, kind: int, part: Part) -> tuple[int, int]:
         """An array member's range, with the one that ends at its begin: a pointer may be that one's end."""
@@ -126,29 +129,41 @@ class Parts:
         low, high = self.with_before(kind, part)
         return Inner(low - offset, high - offset, name + part.path)
 
+    def missed_part(self, kind: int, offset: int, step: int, name: str, width: int) -> Optional[Missed]:
+        """What tells of an access of so many bytes the array member at an offset that it misses, if
+        one is there. A member that begins at the offset itself may be meant, too."""
+        found = self.types.array_at(kind, offset, BEFORE)
+        if found is None or not step:
+            return None
+        part, free = found, -1 if found.begin <= offset < found.end else offset
+
+        def missed(address: int, origin: int) -> Optional[Thing]:
+            at = (address - origin) % step
+            if part.begin <= at and at + width <= part.end or at == free:
+                return None
+            begin = address - at
+            thing = Thing(begin + part.begin, begin + part.end, MEMBER, name + part.path)
+            thing.is_part = True
+            return thing
+        return missed
+
     def indexed_member(self, one: Operation, base: Value) -> Optional[Limit]:
         """The limit of an access by a structure's pointer and an index. The pointer's value was kept when the index was added."""
-        offset, kind = base.offset + one.imm, base.more
-        found = self.types.array_at(kind, offset, BEFORE)
-        size = self.types.size(kind)
-        if found is None or not size:
+        kind, width, register = base.more, one.width, one.rs1
+        offset, step, name = base.offset + one.imm, self.types.size(kind), self.types.name(kind)
+        told = self.missed_part(kind, offset, step, name, width)
+        if told is None:
             return None
-        part = found
-        free = -1 if part.begin <= offset < part.end else offset
-        name, width = self.types.name(kind) + part.path, one.size
+        missed = told
 
         def limit(hart: Hart, address: int) -> Optional[Thing]:
-            tag = hart.tags[one.rs1]
+            tag, kept = hart.tags[register], hart.indexed[register]
             if tag is not None and not tag.holds(address, width):
                 return tag
-            kept = hart.indexed[one.rs1]
             if kept is None:
                 return None
             pointer = value_of(kept) if isinstance(kept, bytes) else kept
-            at = (address - pointer) % size
-            if part.begin <= at and at + width <= part.end or at == free or not -FAR < address - pointer < FAR:
-                return None
-            return member_at(address - at, part, name)
+            return missed(address, pointer) if -FAR < address - pointer < FAR else None
         return limit
 
     def indexed_elements(self, one: Operation, base: Value) -> Optional[Limit]:
@@ -156,20 +171,13 @@ class Parts:
         of = self.elements(base.offset + one.imm) if base.more or one.imm else None
         if of is None:
             return None
-        offset = (base.offset + one.imm - of.begin) % of.size
-        found = self.types.array_at(of.type, offset, BEFORE)
-        if found is None:
+        begin, end = of.begin, of.end
+        offset = (base.offset + one.imm - begin) % of.size
+        told = self.missed_part(of.type, offset, of.size, of.name + "[]", one.width)
+        if told is None:
             return None
-        part = found
-        free = -1 if part.begin <= offset < part.end else offset
-        begin, end, step, name, width = of.begin, of.end, of.size, of.name + "[]" + part.path, one.size
-
-        def limit(_: Hart, address: int) -> Optional[Thing]:
-            at = (address - begin) % step
-            if not begin <= address < end or part.begin <= at and at + width <= part.end or at == free:
-                return None
-            return member_at(address - at, part, name)
-        return limit
+        missed = told
+        return lambda _, address: missed(address, begin) if begin <= address < end else None
 
     # Variables of a frame.
 
@@ -208,7 +216,7 @@ class Parts:
         if found is None or found.low is None:
             return None
         offset = base.offset + one.imm - stack.offset       # from sp
-        low, high, first, width = offset + found.low, offset + found.high, offset + found.begin, one.size
+        low, high, first, width = offset + found.low, offset + found.high, offset + found.begin, one.width
         name, begin = local_name(found.name, self.program.function_of(one.pc)), -stack.offset
 
         def limit(hart: Hart, address: int) -> Optional[Thing]:
@@ -230,13 +238,6 @@ class Parts:
         if base.to == POINTER:
             return self.indexed_member(one, base)
         return self.indexed_local(one, base) if base.to == IN_FRAME else None
-
-
-def member_at(begin: int, part: Part, name: str) -> Thing:
-    """The array member of a structure that begins there."""
-    thing = Thing(begin + part.begin, begin + part.end, MEMBER, name)
-    thing.is_part = True
-    return thing
 
 
 def place_of(chosen: list[Local], before: list[Local], offset: int) -> Place:

@@ -3,13 +3,13 @@ from __future__ import annotations
 
 import re
 from dataclasses import dataclass
-from typing import Dict, Optional
+from typing import Callable, Dict, Optional
 
 from ..recording.types import TO_ALIGNED, TO_CODE
 from .findings import POINTER, Finding, Findings
 from .operation import FULL, Operation
 from .program import Program
-from .state import Event, Hart, Memory, Thing
+from .state import CODE, Event, Hart, Memory, Thing
 
 COPIES = re.compile(r"_*(mem(cpy|move|set|ccpy)|bcopy|bzero)(_.*)?")     # they move bytes of whatever type
 LEAST_ADDRESS = 4096        # small numbers, and those as close to the upper end, are marks that many programs put into pointers
@@ -25,28 +25,36 @@ class Suspect:
 
 class PointerWords:
     """sorts   of each word what it leads to, 0 if it is no pointer; a store to one is judged once other words are stored to, since
-    several stores can make one pointer"""
+    several stores can make one pointer. renew: what is called if code is stored to"""
 
-    def __init__(self, program: Program, memory: Memory, findings: Findings) -> None:
-        self.program, self.memory, self.findings = program, memory, findings
+    def __init__(self, program: Program, memory: Memory, findings: Findings,
+                 renew: Callable[[], None]) -> None:
+        self.program, self.memory, self.findings, self.renew = program, memory, findings, renew
         self.sorts = bytearray(memory.size // 4 + 2)
         self.suspects: Dict[int, Suspect] = {}
-        for each in program.objects:
-            for offset, to in program.types.pointers_in(program.types_of_objects.get(each.begin)):
-                if (each.begin + offset) % 4 == 0 and each.begin + offset + 4 <= min(each.end, memory.size):
-                    self.sorts[each.begin + offset >> 2] = to
+        for each in program.sized:
+            for offset, to in program.types.pointers_in(program.objects.get(each.address)):
+                at = each.address + offset
+                if at % 4 == 0 and at + 4 <= min(each.end, memory.size):
+                    self.sorts[at >> 2] = to
 
-    def stored(self, hart: Hart, one: Operation, row: bytes, address: int, tag: Optional[Thing]) -> None:
+    def stored(self, hart: Hart, one: Operation, row: bytes, address: int,
+               tag: Optional[Thing]) -> bool:
+        """Whether the word is code of a block, which isn't true any more."""
         word, value = address >> 2, int(row[-8:], 16)
+        if self.sorts[word] == CODE:
+            self.renew()
+            return True
         if self.suspects and word not in self.suspects:
             self.judge()
-        if one.size == 4:
+        if one.width == 4:
             self.suspects.pop(word, None)
-            if tag is not None or self.is_pointer(value, word):
-                return
-        elif COPIES.fullmatch(self.program.function_of(one.pc)):
-            return
-        self.suspects[word] = Suspect(value, one.pc, hart.event(row, one.pc))
+            is_good = tag is not None or self.is_pointer(value, word)
+        else:
+            is_good = COPIES.fullmatch(self.program.function_of(one.pc)) is not None
+        if not is_good:
+            self.suspects[word] = Suspect(value, one.pc, hart.event(row, one.pc))
+        return False
 
     def is_pointer(self, value: int, word: int) -> bool:
         if value < LEAST_ADDRESS or value > FULL - LEAST_ADDRESS:
@@ -59,7 +67,7 @@ class PointerWords:
         """Tells of the words that hold no pointer, now that the stores to them are over."""
         for word, one in self.suspects.items():
             if not self.is_pointer(one.value, word):
-                name = self.program.elf.data_name(word * 4)
+                name = self.program.name(word * 4)
                 caller = self.program.function_at(one.when.pcs[1]).first if len(one.when.pcs) > 1 else 0
                 self.findings.add((POINTER, self.program.function_at(one.pc).first, caller), Finding(
                     POINTER, f"{one.value:08x} gets into the pointer {name}, and is none", one.when))

@@ -3,21 +3,24 @@ from __future__ import annotations
 
 import bisect
 import re
+from collections import Counter
 from functools import cached_property
+from typing import Counter as Counts
 from typing import Iterator, NamedTuple, Optional
 
 from ..recording.dwarf import (
-    BLOCK, FRAME_BASE, FUNCTION, HIGH, INLINED, LOCATION, LONGEST_NAME, LOW, PARAMETER, VARIABLE, Entry, dwarf_of, signed)
+    BLOCK, FRAME_BASE, FUNCTION, HIGH, INLINED, LOCATION, LONGEST_NAME, LOW, PARAMETER, VARIABLE, Entry,
+    signed)
 from ..recording.elf import FUNCTION as FUNCTION_SYMBOL
-from ..recording.elf import Elf, Symbol
+from ..recording.elf import Elf, Symbol, last_before
 from ..recording.locations import locations
-from ..recording.types import Types
+from ..recording.members import Members
 
 LIBRARY = re.compile(r"picolibc|newlib|/libc/|libgcc|tinystdio|musl|glibc")      # in the path of a library's source
 # Functions whose parameters aren't those of the source.
 CLONE = re.compile(r"\.(isra|constprop|part|cold)")
 OPTIMIZATION = re.compile(r" -O(\S*)")             # in what tells GCC and its options; the last one counts
-CFA, FBREG, ADDRESS = b"\x9c", 0x91, 3          # DWARF's operations for a frame's begin, a place in it, and an address
+CFA, FBREG = b"\x9c", 0x91                      # DWARF's operations for a frame's begin, and a place in it
 LONGEST_FUNCTION = 65536    # bytes that are analysed
 DEEPEST_BLOCK = 60          # blocks in blocks
 REGISTERS = 8               # that hold arguments
@@ -26,12 +29,6 @@ MOST_LOCATIONS = 1 << 20    # of all functions' variables: forged ones could sha
 
 class Function(NamedTuple):
     first: int
-    end: int
-    name: str
-
-
-class Object(NamedTuple):
-    begin: int
     end: int
     name: str
 
@@ -52,14 +49,13 @@ class Local(NamedTuple):
         return self.offset + self.size
 
 
-class Program:
-    """`elf` is the file with names, if it was stripped."""
+class Program(Members):
+    """sized  the global objects whose size is known, by address"""
 
     def __init__(self, elf: Elf) -> None:
-        self.elf, self.dwarf = elf, dwarf_of(elf)
-        self.types = Types(self.dwarf)
-        self.objects = sorted(Object(each.address, each.address + each.size, each.name) for each in elf.objects if each.size)
-        self.object_begins = [each.begin for each in self.objects]
+        """`elf` is the file with names, if it was stripped."""
+        super().__init__(elf)
+        self.dwarf, self.sized = self.types.dwarf, [each for each in elf.objects if each.size]
         self.left_locations = MOST_LOCATIONS
         self.symbols: dict[int, Symbol] = {}
         for each in elf.functions:
@@ -75,14 +71,10 @@ class Program:
                 if each.tag == FUNCTION and isinstance(each.told.get(LOW), int)}
 
     @cached_property
-    def types_of_objects(self) -> dict[int, Optional[int]]:
-        """{address of a global object: its type}"""
-        found: dict[int, Optional[int]] = {}
-        for each in self.dwarf.entries.values():
-            where = each.block(LOCATION) if each.tag == VARIABLE else b""
-            if len(where) == 5 and where[0] == ADDRESS:
-                found[int.from_bytes(where[1:], "little")] = self.dwarf.type_of(each)
-        return found
+    def inlined(self) -> Counts[str]:
+        """{name of a function: in how many places it was inlined}"""
+        every = self.dwarf.entries.values()
+        return Counter(self.dwarf.name_of(each) for each in every if each.tag == INLINED)
 
     def function_at(self, pc: int) -> Function:
         """The function that an address is in. A label without a size, in a function that has one, is a part of it."""
@@ -114,14 +106,13 @@ class Program:
         levels = OPTIMIZATION.findall(producer)
         return producer.startswith("GNU C") and len(producer) < LONGEST_NAME and levels[-1:] in ([], ["0"])
 
-    def object_at(self, address: int) -> Optional[Object]:
-        at = bisect.bisect_right(self.object_begins, address) - 1
-        return self.objects[at] if at >= 0 and address < self.objects[at].end else None
+    def object_at(self, address: int) -> Optional[Symbol]:
+        found = last_before(self.sized, address)
+        return found if found and address < found.end else None
 
-    def object_before(self, begin: int) -> Optional[Object]:
+    def object_before(self, begin: int) -> Optional[Symbol]:
         """The object before the one that begins there."""
-        at = bisect.bisect_left(self.object_begins, begin) - 1
-        return self.objects[at] if at >= 0 else None
+        return last_before(self.sized, begin - 1)
 
     def parameters(self, first: int) -> list[int]:
         """Of each parameter that is in a register the structure to which it points, or 0; nothing if one takes two registers."""

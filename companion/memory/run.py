@@ -1,99 +1,96 @@
 """The checks along the rows of a log."""
 from __future__ import annotations
 
-from typing import Dict, Iterable, Iterator, List, Mapping, Optional, Sequence, Tuple
+from typing import Dict, Iterable, List, Mapping, Optional, Sequence
 
-from ..recording.chunks import chunks
+from ..recording.chunks import chunks, places, row_at
 from ..recording.elf import Elf
 from ..recording.log import Log
-from .actions import FAULT, Actions
+from .actions import FAULT, KEY, Actions
+from .blocks import Blocks
 from .checks import Checks
-from .facts import Facts
-from .findings import Findings
-from .heap import STORES, Heap, Hook, hooks_of
-from .judge import Judge
-from .pointers import PointerWords
+from .heap import STORES, Hook, hooks_of
 from .program import Program
-from .stacks import Stacks
-from .state import Hart, Memory
+from .state import Hart
 
 FAULTED, RESULT = b" | fault ", b"| a0="
-KEY = 17                    # bytes of an address and a word in a row
-Rows = Iterator[Tuple[bytes, bytes]]            # rows with their keys
+FEW = 6                     # rows of a turn on average: shorter ones are followed row by row
 
 
-class Run:
-    """read      how many rows were read
-    is_whole  whether all rows of the run are: else what was taken, written and called before isn't known"""
+class Run(Checks):
+    """read      how many rows were read"""
 
-    def __init__(self, log: Log, program: Program, hooks: Mapping[int, Hook]) -> None:
-        self.log, self.program, self.read = log, program, 0
-        firsts = log.first_intervals()
-        self.is_whole = not log.dropped and not log.unread and all(one.start == 0 for one in firsts.values())
-        self.memory, self.findings = Memory(log.memory), Findings()
-        self.harts = [Hart(number, firsts[number].registers if number in firsts else ()) for number in range(log.harts)]
-        self.heap = Heap(program, self.memory, self.findings, dict(hooks), self.is_whole)
-        self.stacks = Stacks(program, self.memory, self.heap, self.findings, self.harts)
-        self.pointers = PointerWords(program, self.memory, self.findings)
-        self.judge = Judge(Facts(program), self.memory, self.heap, self.findings)
-        checks = Checks(self.judge, self.stacks, self.pointers)
-        self.actions = [Actions(checks, hart) for hart in self.harts]
+    def __init__(self, log: Log, program: Program, hooks: Mapping[int, Hook],
+                 is_plain: bool = False) -> None:
+        """A plain one follows row by row, which says the same as blocks."""
+        super().__init__(log, program, hooks)
+        self.read, self.is_plain = 0, is_plain
+        self.actions = [Actions(self, hart) for hart in self.harts]
+        self.blocks = [Blocks(actions) for actions in self.actions]
         # Of the function that is passed over: what wrote a0 last, and what stored the result of posix_memalign.
         self.results: Dict[int, Optional[bytes]] = {}
         self.stored: Dict[int, Optional[bytes]] = {}
 
     def along(self, texts: Iterable[bytes]) -> None:
         for text in texts:
-            rows = text[1:].split(b"\n")
-            self.judge.recent.add(rows)
-            self.read += len(rows)
-            has_fault = FAULTED in text
-            if len(self.harts) == 1:
-                self.of_one(self.actions[0], self.with_keys(rows, has_fault))
-            else:
-                self.of_all(rows, has_fault)
+            self.judge.recent.add(text)
+            self.read += text.count(b"\n")
+            fault = text.find(FAULTED)
+            end = text.rfind(b"\n", 0, fault) if fault >= 0 else len(text)
+            turns = [text[1:end]] if len(self.harts) == 1 else turns_of(text[1:end].split(b"\n"))
+            if self.is_plain or not turns[0] or len(turns) * FEW > text.count(b"\n"):
+                end = 0
+            for turn in turns if end else ():
+                self.by_blocks(turn)
+            if end < len(text):
+                self.row_by_row(text[end + 1:])
         self.pointers.judge()
 
-    def with_keys(self, rows: List[bytes], has_fault: bool) -> Rows:
-        """Rows of one hart with their keys, which stand at the same place in all rows whose count has as many digits."""
-        at = rows[0].index(b" ", 2) + 1
-        if at == rows[-1].index(b" ", 2) + 1 and not has_fault:
-            return zip(rows, [row[at:at + KEY] for row in rows])
-        return ((row, key_of(row, 2)) for row in rows)
-
-    def of_one(self, actions: Actions, pairs: Rows) -> None:
-        hart = actions.hart
-        while True:
+    def by_blocks(self, text: bytes) -> None:
+        """The rows of a hart that follow each other."""
+        number = int(text[:2])
+        hart, actions, blocks = self.harts[number], self.actions[number], self.blocks[number]
+        begin, at, size = key_begin(text), 0, len(text)
+        if begin != key_begin(text[text.rfind(b"\n") + 1:]):
+            # A count has a digit more, the first one with so many zeros.
+            longer = text.find(b"\n%d 1%s " % (number, b"0" * (begin - 2 - len(str(number)))))
+            for part in (text[:longer], text[longer + 1:]) if longer >= 0 else ():
+                self.by_blocks(part)
+            if longer < 0:
+                self.row_by_row(text)
+            return
+        actions.begin, careful = begin, actions.careful
+        while at < size:
             if hart.awaited is not None:
-                found = self.passed_over(hart, pairs)
-                if found is None:
-                    return
-                if actions.now()[found[1]](found[0]):
-                    continue
-            table = actions.now()
-            for row, key in pairs:
-                if table[key](row):
-                    break
+                at = self.passed_over(hart, text, at, begin)
+            elif hart.undefined:
+                row = row_at(text, at)
+                careful[row[begin:begin + KEY]](row)
+                at += len(row) + 1
             else:
-                return
+                at = blocks[text[at + begin:at + begin + KEY]](text, at)
 
-    def passed_over(self, hart: Hart, pairs: Rows) -> Optional[tuple[bytes, bytes]]:
-        """The row behind an allocator's function that is under way, or None if it isn't among these."""
+    def passed_over(self, hart: Hart, text: bytes, at: int, begin: int) -> int:
+        """The place of the row behind an allocator's function that is under way, or the end if it
+        isn't among these."""
         assert hart.awaited
-        back = hart.awaited.back
-        for row, key in pairs:
-            if key[:8] == back:
+        for place in places(text, b" %s " % hart.awaited.back, at):
+            row = text.rfind(b"\n", 0, place) + 1
+            if row + begin == place + 1:
+                self.inside(hart, text[at:row])
                 self.returned(hart)
-                return row, key
-            self.inside(hart, row)
-        return None
+                return row
+        self.inside(hart, text[at:])
+        return len(text)
 
-    def inside(self, hart: Hart, row: bytes) -> None:
-        """A row of an allocator's function."""
-        if RESULT in row:
-            self.results[hart.number] = row
-        elif hart.awaited and hart.awaited.does == STORES and hart.awaited.slot in row:
-            self.stored[hart.number] = row
+    def inside(self, hart: Hart, rows: bytes) -> None:
+        """Rows of an allocator's function."""
+        at = rows.rfind(RESULT)
+        if at >= 0:
+            self.results[hart.number] = row_at(rows, at)
+        at = rows.rfind(hart.awaited.slot) if hart.awaited and hart.awaited.does == STORES else -1
+        if at >= 0:
+            self.stored[hart.number] = row_at(rows, at)
 
     def returned(self, hart: Hart) -> None:
         assert hart.awaited
@@ -101,13 +98,14 @@ class Run:
             hart.returns.pop()
         self.heap.returned(hart, self.results.pop(hart.number, None), self.stored.pop(hart.number, None))
 
-    def of_all(self, rows: List[bytes], has_fault: bool) -> None:
-        by_text = {b"%d " % hart.number if hart.number < 10 else b"%d" % hart.number: (hart, actions, len(str(hart.number)) + 1)
+    def row_by_row(self, text: bytes) -> None:
+        by_text = {b"%-2d" % hart.number: (hart, actions)
                    for hart, actions in zip(self.harts, self.actions)}
-        for row in rows:
-            hart, actions, begin = by_text[row[:2]]
-            at = row.index(b" ", begin) + 1
-            key = key_of(row, begin) if has_fault else row[at:at + KEY]
+        has_fault = FAULTED in text
+        for row in text.split(b"\n"):
+            hart, actions = by_text[row[:2]]
+            at = key_begin(row)
+            key = FAULT if has_fault and FAULTED in row else row[at:at + KEY]
             if hart.awaited is not None:
                 if key[:8] != hart.awaited.back:
                     self.inside(hart, row)
@@ -124,7 +122,14 @@ def run_of(log: Log, elf_name: str, named: Elf, takes: Sequence[str] = (), gives
     return run
 
 
-def key_of(row: bytes, begin: int) -> bytes:
-    """The key of a row whose count begins there."""
-    at = row.index(b" ", begin) + 1
-    return FAULT if FAULTED in row else row[at:at + KEY]
+def key_begin(row: bytes) -> int:
+    """The place of a row's address, behind the hart and the count."""
+    return row.index(b" ", 3) + 1
+
+
+def turns_of(rows: List[bytes]) -> List[bytes]:
+    """The texts of rows that follow each other of the same hart."""
+    harts = [row[:2] for row in rows]
+    changes = (at for at, (one, other) in enumerate(zip(harts, harts[1:]), 1) if one != other)
+    begins = [0, *changes, len(rows)]
+    return [b"\n".join(rows[begin:end]) for begin, end in zip(begins, begins[1:])]

@@ -4,9 +4,10 @@ from __future__ import annotations
 import bisect
 from typing import List
 
+from ..recording.instruction import RA, SP
 from .findings import DEPTH, RETURN, Finding, Findings
 from .heap import Heap
-from .operation import RA, SP, Operation
+from .operation import Operation
 from .program import Program
 from .state import ENDED, GOOD, UNWRITTEN, Event, Hart, Memory, Thing
 from .value import ABSOLUTE
@@ -79,7 +80,8 @@ class Stacks:
 
     def set_limit(self, hart: Hart) -> None:
         """The address down to which a stack may grow for certain: above what lies below it, or its own bytes."""
-        below = [each.end if each.end <= hart.top else each.begin for each in self.program.objects if each.begin < hart.top]
+        below = [each.end if each.end <= hart.top else each.address
+                 for each in self.program.sized if each.address < hart.top]
         parts = [part.address + part.size for part in self.program.elf.parts if part.address + part.size <= hart.top]
         hart.limit = max(below + parts + [hart.top - OWN_BYTES, 0])
 
@@ -97,7 +99,7 @@ class Stacks:
     def met(self, hart: Hart, low: int) -> str:
         """What is at a place that a stack has come to, or nothing."""
         there = self.program.object_at(low)
-        if there is not None and not there.begin <= hart.top - 1 < there.end:
+        if there is not None and not there.address <= hart.top - 1 < there.end:
             return there.name
         part = self.program.elf.part_of(low)
         if part is not None and not part.flags & WRITABLE:

@@ -5,7 +5,8 @@ from dataclasses import dataclass
 from typing import Callable, Dict, List, NamedTuple, Optional, Tuple, Union
 
 from ..recording.cut import count_of
-from .operation import A0, CALLER_SAVED, FULL
+from ..recording.instruction import A0
+from .operation import CALLER_SAVED, FULL
 
 # Of a byte. What is PARTLY or wholly COPIED are bits that nobody wrote, stored elsewhere.
 GOOD, UNWRITTEN, SAVED, BESIDE, FREED, ENDED, PARTLY, COPIED = range(8)
@@ -16,7 +17,10 @@ ZEROS = {size: bytes(size) for size in (1, 2, 4, 8)}      # states of bytes of w
 MOST_CALLERS = 12           # places of a call stack that are kept of an event
 DEEPEST_SEARCH = 200        # calls that a return may leave at once, as longjmp does
 
+CODE = 4                    # of a word, beside what a pointer leads to: code that a block was made of
+
 Act = Callable[[bytes], Optional[bool]]         # of a row; True if what looks at the next one has changed
+Text = Tuple[str, str]      # of Python: when an action itself has to be asked, and what it does else
 
 
 def nothing(_: bytes) -> None:
@@ -115,6 +119,8 @@ class Hart:
     rows      of each register the row that wrote it last, or its value, or None
     indexed   of each register the row or the value of the structure's pointer to which an index was added
     undefined {register: its bits that nobody wrote}
+    texts     {action: what it does with most rows, for blocks.py}: `place` is the address that a row
+              accesses. That the row wrote its register isn't said
     returns   the addresses to which the calls that are under way return
     places    things of frames to which pointers were made, outermost first
     sp        the stack pointer, None if it isn't known; top, lowest: of its stack; limit: it may grow down to this for certain
@@ -128,6 +134,7 @@ class Hart:
         self.rows: List[Union[bytes, int, None]] = [0, *registers[1:]] if registers else [None] * 32
         self.indexed: List[Union[bytes, int, None]] = [None] * 32
         self.undefined: Dict[int, Undefined] = {}
+        self.texts: Dict[Act, Text] = {}
         self.returns: List[int] = []
         self.places: List[Thing] = []
         self.sp = registers[2] if registers else 0

@@ -3,10 +3,12 @@ from __future__ import annotations
 
 from typing import Callable, Optional
 
+from ..recording.instruction import SP
 from .checks import Checks
 from .dynamic import ROUNDED, SPARED, becomes_size, is_aligned_down, pointer_to, size_asked
-from .operation import SP, Operation
+from .operation import FULL, Operation
 from .parts import local_name
+from .pointers import LEAST_ADDRESS
 from .stacks import is_frame_move
 from .state import DIFFERENCE, FRAME, MEMBER, Act, Hart, Scoped, Thing, value_of
 from .value import ABSOLUTE, POINTER, Value
@@ -144,6 +146,7 @@ class Sums:
         def act(row: bytes) -> None:
             tags[rd] = tags[rs]
             rows[rd] = row
+        hart.texts[act] = "", f"tags[{rd}] = tags[{rs}]" if rd != rs else ""
         return act
 
     def adding(self, one: Operation) -> Act:
@@ -160,7 +163,19 @@ class Sums:
             x, y = tags[rs1], tags[rs2]
             tags[rd] = x if y is None else DIFFERENCE
             rows[rd] = row
-        return add if one.name == "add" else subtract
+
+        def unsure(row: bytes) -> None:
+            number = hart.value(rs1 if tags[rs1] is None else rs2) if None in (tags[rs1], tags[rs2]) else 0
+            (add if one.name == "add" else subtract)(row)
+            if number is None or LEAST_ADDRESS <= number <= FULL - LEAST_ADDRESS:
+                tags[rd] = None
+        if not self.checks.is_whole:            # what isn't a small number may be a pointer, or the difference of two
+            return unsure
+        if one.name == "sub":
+            return subtract
+        sum_of_tags = "y if x is None else x if y is None else None"
+        hart.texts[add] = "", f"x, y = tags[{rs1}], tags[{rs2}]; tags[{rd}] = {sum_of_tags}"
+        return add
 
     def indexing(self, one: Operation) -> Act:
         """An index is added to a structure's pointer, whose value is kept."""
@@ -186,6 +201,7 @@ class Sums:
         def act(row: bytes) -> None:
             tags[rd] = None
             rows[rd] = row
+        hart.texts[act] = "", f"tags[{rd}] = None"
         return act
 
 

@@ -7,9 +7,10 @@ from typing import Callable, Optional, Tuple
 from .findings import UNINITIALIZED, Finding
 from .heap import Hook
 from .judge import Judge
-from .operation import A0, A1, A2, A7, ALU, AMO, BRANCH, ECALL, FULL, JALR, LOAD, STORE, Operation
+from .operation import FULL, Operation
 from .state import COPIED, PARTLY, Act, Hart, Origin, Undefined
 from .value import FRAME
+from ..recording.instruction import A0, A1, A2, A7, ALU, AMO, BRANCH, CALL, JUMP, LOAD, STORE
 from ..recording.log import READ_CALL, WRITE_CALL
 
 # Functions of a library whose branches look at bytes that don't count.
@@ -89,10 +90,10 @@ class UndefinedBits:
             return lambda row: self.computed(hart, one)
         if one.kind == BRANCH:
             return lambda row: self.branched(hart, one, row)
-        if one.kind == ECALL:
+        if one.kind == CALL:
             return lambda row: self.called(hart, one, row)
-        registers = (one.rs1,) if one.kind in (LOAD, STORE, AMO, JALR) else ()
-        what = "a jump depends" if one.kind == JALR else "an address depends"
+        registers = (one.rs1,) if one.kind in (LOAD, STORE, AMO, JUMP) else ()
+        what = "a jump depends" if one.kind == JUMP else "an address depends"
 
         def use(row: bytes) -> None:
             self.used(hart, one, row, registers, what)
@@ -116,9 +117,9 @@ class UndefinedBits:
 
     def loaded(self, hart: Hart, one: Operation, address: int, bits: int) -> bool:
         """Bits that nobody wrote are in a register."""
-        width = 8 * one.size
+        width = 8 * one.width
         if one.rd:
-            if width < 32 and not one.unsigned and bits >> width - 1 & 1:
+            if width < 32 and not one.word >> 14 & 1 and bits >> width - 1 & 1:
                 bits |= FULL & -1 << width
             hart.undefined[one.rd] = Undefined(bits, self.origin(hart, one.pc, address))
         return True
@@ -126,7 +127,7 @@ class UndefinedBits:
     def stored(self, hart: Hart, one: Operation, address: int) -> None:
         """They are in memory, which is no error."""
         bits, origin = hart.undefined[one.rs2]
-        for at in range(one.size):
+        for at in range(one.width):
             part = bits >> 8 * at & 255
             if part:
                 self.memory.states[address + at] = COPIED if part == 255 else PARTLY

@@ -31,6 +31,10 @@ class Symbol(NamedTuple):
     kind: int
     name: str
 
+    @property
+    def end(self) -> int:
+        return self.address + self.size
+
 
 class Elf:
     """parts      the loaded segments, by address

@@ -1,4 +1,4 @@
-"""Writes the tables of bench/RESULTS.md that tries.py has results for: tables.py FOLDER.
+"""Writes the tables of bench/RESULTS.md that tries.py and ablation.py have results for: tables.py FOLDER.
 
 Each follows a line `<!-- tests/sanitizers/tables.py NAME -->`, up to the next empty line."""
 from __future__ import annotations
@@ -74,20 +74,52 @@ def fresh(results: List[Result]) -> str:
                   for one in results if one["test"].startswith("fresh/")))
 
 
-TABLES: Dict[str, Callable[[List[Result]], str]] = {"errors": errors, "good": good, "kinds": kinds, "fresh": fresh}
+def without(found: Result, which: str) -> str:
+    """The ablation by parts: which errors aren't named and which good programs are told if one is
+    left out, with the first of each."""
+    rows = []
+    for name in found[which]:
+        ends = [(f"`{test}`", each["nothing"], each[name])
+                for test, each in sorted(found["ends"].items()) if name in each]
+        lost = [test for test, whole, end in ends if whole == "named" != end] or ["-"]
+        false = [test for test, whole, end in ends if (whole, end) == ("silent", "false")] or ["-"]
+        rows.append((name, len(lost) - (lost == ["-"]), lost[0], len(false) - (false == ["-"]), false[0]))
+    return table("| left out | errors not named then | as | good ones told then | as |",
+                 (row(*each) for each in sorted(rows, key=lambda each: (-each[1], -each[3]))))
+
+
+def checks(found: Result) -> str:
+    return without(found, "checks")
+
+
+def rules(found: Result) -> str:
+    return without(found, "rules")
+
+
+# Of each file of results the tables that are made of it.
+TABLES: Dict[str, Dict[str, Callable[[Any], str]]] = {
+    "results.json": {"errors": errors, "good": good, "kinds": kinds, "fresh": fresh},
+    "ablation.json": {"checks": checks, "rules": rules}}
+
+
+def with_table(text: str, name: str, made: str) -> str:
+    mark = f"<!-- tests/sanitizers/tables.py {name} -->\n"
+    if text.count(mark) != 1:
+        sys.exit(f"bench/RESULTS.md has {text.count(mark)} lines {mark}")
+    before, _, after = text.partition(mark)
+    return before + mark + made + "\n" + re.sub(r"\A(.+\n)*", "", after)
 
 
 def main(folder: str) -> None:
-    with open(os.path.join(folder, "results.json"), encoding="utf-8") as file:
-        results: List[Result] = json.load(file)
     with open(PAGE, encoding="utf-8") as file:
         text = file.read()
-    for name, made in TABLES.items():
-        mark = f"<!-- tests/sanitizers/tables.py {name} -->\n"
-        if text.count(mark) != 1:
-            sys.exit(f"bench/RESULTS.md has {text.count(mark)} lines {mark}")
-        before, _, after = text.partition(mark)
-        text = before + mark + made(results) + "\n" + re.sub(r"\A(.+\n)*", "", after)
+    for file_name, tables in TABLES.items():
+        path = os.path.join(folder, file_name)
+        if os.path.exists(path):
+            with open(path, encoding="utf-8") as file:
+                found = json.load(file)
+            for name, made in tables.items():
+                text = with_table(text, name, made(found))
     with open(PAGE, "w", encoding="utf-8") as file:
         file.write(text)
 

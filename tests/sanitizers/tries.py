@@ -141,20 +141,25 @@ def lines_in(found: Any) -> Iterator[int]:
         yield from lines_in(each)
 
 
-def by_memory(test: Test, log: str, elf: str) -> Dict[str, Any]:
-    """What came of a test by `memory`, what was told first, and which kinds tell the line. Of programs with a guilty line each line
-    of a finding counts, as a reader sees it."""
+def by_memory(test: Test, lines: frozenset[int], log: str, elf: str) -> Dict[str, Any]:
+    """What came of a test by `memory`, of which these lines are right."""
     answer = companion("memory", log, elf, *(["--leaks"] if test.kind == LEAK else []), *(POOL if test.elf else ()))
     if "error" in answer and test.elf:          # it has no such pool
         answer = companion("memory", log, elf)
     if "error" in answer:
         return {"memory": "isn't read", "told": str(answer["error"])}
+    return judged(test, lines, answer)
+
+
+def judged(test: Test, lines: Iterable[int], answer: Dict[str, Any]) -> Dict[str, Any]:
+    """What an answer of `memory` tells first, and which kinds tell a right line. Of programs with a
+    guilty line each line of a finding counts, as a reader sees it."""
     lost = [{"kind": LEAK, "calls": each["calls"]} for each in answer["leaks"] if each["unreached"]]
     found: List[Dict[str, Any]] = (answer["findings"] + lost)[:FIRST]
     said = "; ".join(f"{each['kind']} {each['calls'][0]['line'] if each['calls'] else '?'}" for each in found)
     has_guilty = test.name.startswith(("fresh/", "crashes/"))
     near = [set(lines_in(each) if has_guilty else (line["line"] for line in each["calls"][:2])) for each in found]
-    by = sorted({each["kind"] for each, lines in zip(found, near) if lines & test.lines})
+    by = sorted({each["kind"] for each, told in zip(found, near) if told.intersection(lines)})
     return {"memory": end_of(test, [each["kind"] for each in found], set().union(*near)), "told": said, "by": by,
             "kinds": sorted({each["kind"] for each in found})}
 
@@ -165,39 +170,54 @@ def by_why(test: Test, log: str, elf: str) -> str:
     return end_of(test, [ANY] * len(suspects), lines_in(suspects))
 
 
-def tried(test: Test, folder: str, elf: str) -> Dict[str, Any]:
+def tried(test: Test, lines: frozenset[int], folder: str, elf: str) -> Dict[str, Any]:
     """What came of a test by `memory`, and of a fresh one by `why`."""
-    log = os.path.join(folder, os.path.basename(elf)[:-4] + ".log")
+    log = log_of(folder, elf)
     subprocess.run([PROGRAM, "record", "--format", "2", *test.recorded, elf, log, log[:-4] + ".book"],
                    stdout=subprocess.DEVNULL, stderr=subprocess.DEVNULL, timeout=PATIENCE_S)
     if not os.path.exists(log):
         return {"memory": "isn't recorded"}
-    found = by_memory(test, log, elf)
+    found = by_memory(test, lines, log, elf)
     if test.name.startswith("fresh/"):
         found["why"] = by_why(test, log, elf)
     return found
 
 
+def log_of(folder: str, elf: str) -> str:
+    return os.path.join(folder, os.path.basename(elf)[:-4] + ".log")
+
+
+def tests_in(folder: str) -> List[Test]:
+    memcheck = os.path.join(folder, "valgrind", "memcheck", "tests")
+    return [*gcc_tests(os.path.join(folder, "gcc")), *memcheck_tests(memcheck),
+            *fresh_tests(os.path.join(HERE, "fresh")), *crash_tests(os.path.join(TOP, "tests", "crashes"))]
+
+
 def results(folder: str, only: str) -> Iterator[Dict[str, Any]]:
-    tests = [*gcc_tests(os.path.join(folder, "gcc")), *memcheck_tests(os.path.join(folder, "valgrind", "memcheck", "tests")),
-             *fresh_tests(os.path.join(HERE, "fresh")), *crash_tests(os.path.join(TOP, "tests", "crashes"))]
-    for test in (test for test in tests if test.name.startswith(only)):
+    for test in (test for test in tests_in(folder) if test.name.startswith(only)):
         for level in test.levels:
             elf = built(test, folder, level)
+            told = by_peers(test, folder, level) if elf and not test.elf else {}
+            lines = test.lines or frozenset(lines_by(told.get("AddressSanitizer")))
             try:
-                ours = tried(test, folder, elf) if elf else {"memory": "doesn't build"}
+                ours = tried(test, lines, folder, elf) if elf else {"memory": "doesn't build"}
             except subprocess.TimeoutExpired:
                 ours = {"memory": "takes too long"}
-            yield {"test": test.name, "level": level, "kind": test.kind, "lines": sorted(test.lines), **ours,
-                   **({} if test.elf or not elf else by_peers(test, folder, level))}
+            ends = {name: end_of(test, *each) if each else "doesn't build" for name, each in told.items()}
+            yield {"test": test.name, "level": level, "kind": test.kind, "lines": sorted(lines), **ours, **ends}
 
 
-def by_peers(test: Test, folder: str, level: str) -> Dict[str, str]:
+def lines_by(told: peers.Told) -> List[int]:
+    """The lines of the first frames of a peer, which are right if a test says none."""
+    return told[1] if told else []
+
+
+def by_peers(test: Test, folder: str, level: str) -> Dict[str, peers.Told]:
     """(memcheck takes longest by far, and GCC's tests are mostly of stacks and globals, which it can't see.)"""
     told = {"AddressSanitizer": peers.by_sanitizer(test, folder, level)}
     if not test.name.startswith("gcc/"):
         told["memcheck"] = peers.by_memcheck(test, folder, level)
-    return {name: end_of(test, *each) if each else "doesn't build" for name, each in told.items()}
+    return told
 
 
 def main(folder: str, only: str = "") -> None:

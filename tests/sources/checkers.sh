@@ -23,7 +23,7 @@ fi
 what="types of tools and tests, by mypy"
 if type -P mypy >/dev/null; then
     runs 0 mypy --python-version 3.8 --cache-dir "$work/mypy" tools/*.py tools/help/make.py
-    MYPYPATH=bench:tests/companions/lib:tests/companions/why:tests/hostile:tests/crashes:tests/sanitizers:tools:. runs 0 mypy --python-version 3.8 \
+    MYPYPATH=bench:tests/companions/lib:tests/companions/why:tests/companions/memory:tests/hostile:tests/crashes:tests/sanitizers:tools:. runs 0 mypy --python-version 3.8 \
         --cache-dir "$work/mypy" --explicit-package-bases --check-untyped-defs --no-strict-optional --disable-error-code var-annotated \
         --disable-error-code misc --disable-error-code assignment {bench,tests,tests/*,tests/companions/*}/*.py
     runs 0 mypy --strict --python-version 3.8 --cache-dir "$work/mypy_oracle" --follow-imports=silent -p tests.oracle

@@ -25,14 +25,14 @@ NAMES = "heap", "filters", "table", "prices"
 
 def questions(program):
     """(expression for gdb, what the program's types say) of each global object whose name is its own."""
-    names = [each.name for each in program.objects]
-    for each in program.objects:
-        kind = program.types_of_objects.get(each.begin)
+    names = [each.name for each in program.sized]
+    for each in program.sized:
+        kind = program.objects.get(each.address)
         if kind is None or names.count(each.name) > 1 or "." in each.name:
             continue
         yield f"sizeof({each.name})", program.types.size(kind)
         for path, begin, end in program.types.arrays(kind):
-            yield f"(unsigned)&{each.name}{path}", each.begin + begin
+            yield f"(unsigned)&{each.name}{path}", each.address + begin
             yield f"sizeof({each.name}{path})", end - begin
 
 
@@ -94,10 +94,10 @@ class DwarfTest(case.Case):
             for _ in range(20):
                 forged[draw.choice(parts) + draw.randrange(400)] = draw.randrange(256)
             program = Program(Elf(common.written(common.path("forged.elf"), bytes(forged))))
-            for each in program.objects:
-                kind = program.types_of_objects.get(each.begin)
+            for each in program.sized:
+                kind = program.objects.get(each.address)
                 self.assertLessEqual(len(program.types.pointers_in(kind)), 1 << 16)
-                program.types.structures_at(kind, each.begin, each.begin + 8, "")
+                program.types.structures_at(kind, each.address, each.address + 8, "")
             parts_of = Parts(facts.Facts(program))
             for symbol in program.elf.functions:
                 program.parameters(symbol.address)

@@ -5,17 +5,19 @@ import os
 import re
 import shutil
 import subprocess
+import unittest.mock
 from contextlib import closing
 
 import case
 import common
 
-from companion.memory import findings, memory
+from companion.memory import blocks, findings, memory
 from companion.memory.answer import Answer
 from companion.memory.heap import hooks_of
 from companion.memory.leaks import leaks_of
 from companion.memory.program import Program
 from companion.memory.run import Run
+from companion.memory.state import CODE
 from companion.recording.chunks import chunks
 from companion.recording.elf import Elf
 from companion.recording.log import load_log
@@ -68,11 +70,18 @@ CASES = (
     ("member_pointer_after", findings.MEMBER, "store of 1, 0 bytes after name.text (12 bytes)", "set"),
     ("stack_after_constant", findings.STACK, "store of 1, 0 bytes after four of stack_after_constant (4 bytes)", "set_fifth"),
 )
+GOOD_EXAMPLES = (("counter", "--harts", "4"), ("sort", "--limit", "300000"), ("word_count",), ("lock", "--harts", "4"),
+                 ("two_locks", "--harts", "2"), ("prices", "--harts", "4"), ("filters", "--harts", "4"))
 PLAIN = "after_scope",                          # cases of the program that is compiled without optimization
 NUMBERS = {name: at for at, (name, *_) in enumerate(CASES)}
 # MEMORY_CASES can name some, for mutants.py.
 TRIED = [each for each in CASES if each[0] in os.environ.get("MEMORY_CASES", each[0]).split()]
 programs = {}
+
+
+def told_of(run):
+    """What is told of a run: each kind with the place of its access."""
+    return {(each.kind, each.when.pcs[0]) for each in run.findings.in_order()}
 
 
 class Oracle:
@@ -143,11 +152,14 @@ class MemoryTest(case.Case):
         return answer["findings"], answer
 
     def run_of(self, log, elf):
+        return self.run_of_log(load_log(log), elf)
+
+    def run_of_log(self, log, elf, is_plain=False):
         if elf not in programs:
             programs[elf] = Program(Elf(elf))
         program = programs[elf]
-        run = Run(load_log(log), program, hooks_of(program, [], []))
-        run.along(chunks(log, elf, log=load_log(log)))
+        run = Run(log, program, hooks_of(program, [], []), is_plain)
+        run.along(chunks(log.name, elf, log=log))
         return run
 
     def lines_of(self, log, elf):
@@ -191,21 +203,50 @@ class MemoryTest(case.Case):
         self.assertRegex(self.lines_of(self.log("lends", "b"), self.built), r"given back in gives_back .*: another hart\n")
 
     def test_of_a_lost_beginning_nothing_is_told_that_needs_it(self):
-        """Each end of a good recording is silent, too."""
-        for name in ("heap_after", "freed", "resized", "stack_after", "unwritten_copied", "depth", "asked", "beside_a_lost_block"):
-            log = self.record_in_intervals(name)
-            with closing(open_log(log)) as source:
-                for end in (source.end(rows) for rows in (20, 60, 200)):
-                    with self.subTest(name, rows=end.rows()):
-                        program = programs.setdefault(self.built, Program(Elf(self.built)))
-                        run = Run(end, program, hooks_of(program, [], []))
-                        run.along(chunks(end.name, self.built, log=end))
-                        self.assertEqual((run.findings.in_order(), run.is_whole), ([], not end.unread))
+        """Each end of a good recording is silent, and one of a bad recording tells nothing that the whole doesn't."""
+        for name, *_ in TRIED:
+            for which in "gb":
+                log, elf = self.record_in_intervals(name, which), self.elf_of(name)
+                whole = told_of(self.run_of(log, elf))
+                with closing(open_log(log)) as source:
+                    for end in (source.end(rows) for rows in (20, 60, 200)):
+                        with self.subTest(name, which=which, rows=end.rows()):
+                            run = self.run_of_log(end, elf)
+                            self.assertLessEqual(told_of(run), whole)
+                            self.assertEqual(run.is_whole, not end.unread)
 
-    def record_in_intervals(self, name):
-        """A good recording with a Header each hundred rows, so that an end of it can be read."""
-        self.log(name, "g")
-        return common.record(name + "-ends", self.built, "--seed", "3", "--input", self.given(name, "g"), "--interval", "100")
+    def record_in_intervals(self, name, which):
+        """A recording with a Header each hundred rows, so that an end of it can be read."""
+        key = name, which, "intervals"
+        if key not in case.logs:
+            self.log(name, which)
+            harts = ["--harts", "2"] if name == "lends" else []
+            given = self.given(name, which)
+            case.logs[key] = common.record("-".join(key), self.elf_of(name), "--seed", "3", "--input", given,
+                                           "--interval", "100", *harts)
+        return case.logs[key]
+
+    def test_blocks_and_single_rows_say_the_same(self):
+        """Code that runs often is followed by functions of many rows: here of all that runs twice."""
+        examples = [(self.record(name, "--seed", "1", *words), self.elf(name)) for name, *words in GOOD_EXAMPLES]
+        with unittest.mock.patch.object(blocks, "HOT", 2):
+            for log, elf in [(self.log(name, "b"), self.elf_of(name)) for name, *_ in TRIED] + examples:
+                with self.subTest(log):
+                    runs = [self.run_of_log(load_log(log), elf, is_plain) for is_plain in (True, False)]
+                    self.assertEqual(*([(each.kind, each.text, each.when, each.times) for each in one.findings.in_order()]
+                                       for one in runs))
+                    self.assertEqual(*(one.findings.unknown for one in runs))
+                    self.assertEqual(*(one.memory.states for one in runs))
+                    self.assertEqual(*([hart.value(at) for hart in one.harts for at in range(32)] for one in runs))
+
+    def test_code_that_is_changed(self):
+        """A store to code of a block ends all blocks."""
+        log, elf = self.record("sort", "--limit", "30000"), self.elf("sort")
+        run = self.run_of_log(load_log(log), elf)
+        made = [each for each in run.blocks[0].values() if each.__name__ == "block"]
+        word = run.pointers.sorts.index(CODE)
+        self.assertTrue(run.pointers.stored(run.harts[0], None, b"00000000", 4 * word, None))
+        self.assertEqual((bool(made), dict(run.blocks[0]), run.blocks[0].left, CODE in run.pointers.sorts), (True, {}, 0, False))
 
     def test_accesses_to_what_was_given_back_are_those_of_a_plain_reading(self):
         for name in ("freed", "resized", "heap_after", "unwritten_copied"):
@@ -230,6 +271,15 @@ class MemoryTest(case.Case):
         self.assertEqual(first["given_back"]["calls"][0]["line"], 31)
         self.assertEqual([each["text"] for each in self.found(log, elf, "--alloc=take:=12", "--free=give")[0]],
                          [each["text"] for each in found])
+
+    def test_an_allocator_that_was_inlined(self):
+        log = self.log("freed", "g")
+        said = self.refuses_here(4, memory, log, self.built, "--alloc", "wait_for")
+        self.assertIn("no function wait_for: it was inlined in 2 places", said)
+        run = self.run_of(log, self.built)
+        for times, notes in ((0, []), (1, ["malloc was inlined in 1 place, too: what it does there isn't known."])):
+            with unittest.mock.patch.dict(run.program.inlined, malloc=times), closing(Places(run.program.elf)) as places:
+                self.assertEqual([note for note in Answer(run, places, [], []).notes if "inlined" in note], notes)
 
     def test_blocks_of_optimized_code(self):
         """Its instructions leave their blocks: nothing is said of them. Of a compiler that isn't GCC it isn't known."""
@@ -276,8 +326,7 @@ class MemoryTest(case.Case):
 
     def test_examples_are_good(self):
         """Those that end well have no error of memory; of those with one nothing but it is told."""
-        for name, *words in (("counter", "--harts", "4"), ("sort", "--limit", "300000"), ("word_count",), ("lock", "--harts", "4"),
-                             ("two_locks", "--harts", "2"), ("prices", "--harts", "4"), ("filters", "--harts", "4")):
+        for name, *words in GOOD_EXAMPLES:
             with self.subTest(name):
                 log = self.record(name, "--seed", "1", *words)
                 self.assertEqual(self.run_of(log, self.elf(name)).findings.in_order(), [])
