@@ -22,7 +22,7 @@ from .recording.instruction import NAMES
 from .recording.log import At, is_fault
 from .recording.row import Row, rows_of
 
-EVERY = 1 << 40
+EVERY = 1 << 40             # rows: more than any log holds
 
 
 @dataclass(frozen=True)

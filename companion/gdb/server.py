@@ -27,7 +27,7 @@ UNSUPPORTED = ""  # the protocol's answer to a packet that isn't known
 FEATURES = (f"PacketSize={PACKET_SIZE:x};qXfer:features:read+;ReverseStep+;ReverseContinue+;"
             "QStartNoAckMode+;vContSupported+")
 MOST_BYTES = PACKET_SIZE // 4  # of memory in an answer, each two digits
-MOST_ROWS = 100
+MOST_ROWS = 100             # of `monitor last`: gdb shows no more than some screens
 MONITOR_HELP = ("monitor where: the next count and address of each hart\n"
                 "monitor last N: the last N rows before this place\n"
                 "monitor at: how many steps lead here\n"

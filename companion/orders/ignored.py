@@ -10,9 +10,9 @@ from ..call.files import check_regular
 from ..recording.places import Frame
 from ..recording.races import Group, Races
 
-MOST_LINES = 10000
-LONGEST = 200
-MOST_STARS = 4
+MOST_LINES = 10000          # each is compared with each group of races
+LONGEST = 200               # letters
+MOST_STARS = 4              # each multiplies the ways in which a pattern can be tried
 AND = " and "
 
 

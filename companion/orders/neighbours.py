@@ -16,7 +16,7 @@ FARTHEST = 64
 TOGETHER = 12
 LENGTHS = 1, 1, 2, 3, 5, 8, 13, 21, 34  # of bursts
 BURSTS = 4, 24                          # so many at least and at most
-MOST_HARTS_MOVED = 3
+MOST_HARTS_MOVED = 3                    # switches at once: with more it is another order, none near
 
 
 def neighbours(pieces: Pieces, harts: int, most: int) -> List[Asked]:

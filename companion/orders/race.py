@@ -38,9 +38,9 @@ the fenced accesses themselves: loads and stores beside a `fence`, as GCC writes
 release. That order and the grouping are this command's own judgement. The exact list is that of
 `zelkuma races`: pairs of accesses that no atomic instruction orders.""")
 FAR = 1 << 20                                # what a row costs that isn't on the chain
-MOST = 200000
-GROUPS_TOLD = 12
-BRIEF_TOLD = 6
+MOST = 200000                                # lines of `races`, if --max doesn't say so
+GROUPS_TOLD = 12                             # a screen; --more tells all
+BRIEF_TOLD = 6                               # of each of the families behind the first
 KINDS = ("", ORDERED, FENCED)                # in the order in which groups are told
 ON_CHAIN, CHAIN_WORD, IN_FAULT, OTHER = range(4)
 HEADS = {ORDERED: "ORDERED BY FENCES: "

@@ -40,8 +40,8 @@ turns are recorded again, up to a limit just below. A second one keeps the last 
 130 (143, 129).""")
 FIRST_LIMIT = 1000000  # instructions
 STEP = 8  # how many times as many the next recording may do
-USUAL_LIMIT = 1000000000
-HIGHEST_LIMIT = 1 << 40
+USUAL_LIMIT = 1000000000  # instructions of a hart: what `record` has without --limit
+HIGHEST_LIMIT = 1 << 40  # that of `record`
 LEAST_GAIN = 1.5  # a recording that ends earlier than so many times the last step isn't made
 NEARLY = 0.9  # of what was reached
 # What shells say of SIGSEGV, and `timeout`

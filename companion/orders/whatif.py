@@ -51,8 +51,8 @@ A run that ends well then shows that the row was needed for the crash, not that 
     },
     """LOG has to hold its whole run, of no more than 4 million rows. Calls, jumps and atomics can't
 be changed, nor can rows of a program whose code names all registers.""")
-MOST_ROWS = 4000000
-LONGEST_INTERVAL = 10000000
+MOST_ROWS = 4000000         # both runs are held in arrays
+LONGEST_INTERVAL = 10000000     # the highest that `record` takes: no interval ends a turn
 MORE_ROWS = 64              # at most so many instructions take the place of one
 MOST_TESTS = 3              # registers by which a hart is told from the others
 ACCESS = re.compile(rb"(?:load|store) \w{8}=\w{8}")

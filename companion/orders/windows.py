@@ -11,7 +11,7 @@ from ..recording.turns import Piece, Pieces, again_at, joined
 from .same_end import Faulted
 from .tries import Tries
 
-MOST_PIECES = 41
+MOST_PIECES = 41    # 40 switches: each takes some dozen recordings, and more aren't read by anyone
 MOST_LATER = 1 << 12        # turns by which a switch is moved later at most
 SLACK = 64                  # turns that the last hart may need more for its fault
 

@@ -4,9 +4,9 @@ from __future__ import annotations
 
 from typing import Callable, Dict, List, Sequence, Tuple
 
-WIDTH = 64
+WIDTH = 64              # bits of a number on gdb's stack
 MASK = (1 << 64) - 1
-ADDRESS = 0xffffffff
+ADDRESS = 0xffffffff    # the bits of a guest's address
 Operation = Tuple[int, str, int]            # its place in the code, its name, and its operand or 0
 Code = Sequence[Operation]
 

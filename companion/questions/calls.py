@@ -37,9 +37,9 @@ and from where.""",
     """Arguments have names and types if gdb tells them (gdb-multiarch, or what $ZELKUMA_GDB names),
 else they are a0 to a7. An inlined call has neither arguments nor a result. How long a call ran is
 in instructions of its hart.""")
-TOLD = 100
-MOST_TOLD = 1000000
-MOST_FRAMES = 3
+TOLD = 100              # the last calls; --last tells more
+MOST_TOLD = 1000000     # each is held in memory
+MOST_FRAMES = 3         # callers in a line
 WHERE = re.compile(r"\s*(\w+)\s*(==|!=|<=|>=|<|>)\s*(-?\w+)\s*")
 COMPARE: dict[str, Callable[[int, int], bool]] = {"==": operator.eq, "!=": operator.ne,
                                                   "<": operator.lt, "<=": operator.le,

@@ -31,10 +31,10 @@ stored that word in each run.""",
     """What a hart does while it waits, in a loop that loads but stores and counts nothing, is no
 difference. Harts come in the order in which they parted in BAD. A log that has lost its beginning
 can't be compared.""")
-MOST_ROWS = 15000000
-LOOKED_BACK = 4000
-READ_BACK = 500
-MOST_FRAMES = 3
+MOST_ROWS = 15000000    # of each run: 4 bytes each in arrays
+LOOKED_BACK = 4000      # rows that both runs did, back from where they part
+READ_BACK = 500         # rows before one that are read with it: the next that is asked for is there
+MOST_FRAMES = 3         # callers in a line
 # How what a row did begins
 LOADED = "load "
 STORED = "store "

@@ -32,10 +32,10 @@ NAME is a variable or a part of it (`orders[3].amount`), a symbol, a symbol and 
     {"--changes": "only stores that change it"},
     """Types and parts are gdb's (gdb-multiarch, or what $ZELKUMA_GDB names). Rows are in the order
 of `joint`.""")
-TOLD = 100
-MOST_TOLD = 1000000
-MOST_FRAMES = 4
-LARGEST = 8
+TOLD = 100              # the last stores; --last tells more
+MOST_TOLD = 1000000     # each is held in memory
+MOST_FRAMES = 4         # callers in a line
+LARGEST = 8             # bytes of a C scalar: larger variables are told by their parts
 
 
 @dataclass(frozen=True)

@@ -13,8 +13,9 @@ from .flow import Flow, Open
 from .reading import Asked, read
 from .waiting import Loops, Waits
 
+# A viewer in a browser holds all in memory.
 MOST_EVENTS = 500000
-MOST_EDGES = 2000
+MOST_EDGES = 2000       # arrows: more of them hide what they lie over
 MOST_TURNS = 50000
 MOST_WAITS = 50000
 PROCESS = 1  # of the harts

@@ -11,9 +11,9 @@ from ..recording.cut import count_of, pc_of
 from ..recording.instruction import AMO, LOAD
 from .waiting import MOST_LOOP, Loops, addresses_of
 
-PIECE = 4096
-MOST_SKIPS = 1000
-LOOKED_BACK = 16
+PIECE = 4096            # rows that are compared at once: a slice is compared by C
+MOST_SKIPS = 1000       # of waits that were passed over: the last ones are told
+LOOKED_BACK = 16        # rows before a piece that stay known, as the way to where two part
 
 
 class Way:

@@ -9,7 +9,7 @@ from .elf import EXECUTABLE, Elf
 from .naming import places_of
 from .places import LONGEST_LINE_NUMBER
 
-MOST_CODE = 1 << 22
+MOST_CODE = 1 << 22     # bytes: a million instructions. A forged file may name gigabytes
 Named = Tuple[int, str]     # an address, and what is there
 
 

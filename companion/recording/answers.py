@@ -11,7 +11,7 @@ from ..call.version import version
 from .places import Places
 
 T = TypeVar("T")
-VERSION = 1
+VERSION = 1             # of docs/JSON.md: a key that goes or changes its meaning makes it 2
 LONGEST = 200               # entries of a list at most
 
 

@@ -15,8 +15,8 @@ from .log import End, Log, is_fault
 from .recent import FIRST_ROWS, LogFile
 from .stacks import Chunk, Frame, Stacks, call_places
 
-LOOP_ROWS = 300
-MOST_FRAMES = 200
+LOOP_ROWS = 300         # of jumps: some rounds of a loop, whose lowest frame is the cause's
+MOST_FRAMES = 200       # a recursion is told by these; no sound program has more
 # Of all harts, for the calls over a loop: one hart's share takes some seconds
 HANG_ROWS = 20000000
 EXITS = "exit", "group"

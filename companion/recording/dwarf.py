@@ -61,10 +61,11 @@ COUNTED = {0x0a: 1, 0x03: 2, 0x04: 4}           # blocks behind their length in 
 STRINGS = {0x0e: ".debug_str", 0x1f: ".debug_line_str"}
 LONG = 0xfffffff0           # lengths from here on are those of 64-bit DWARF
 MOST_ENTRIES = 400000       # some 200 MB of Python's memory; sqlite3 has 30,000
+# Files may be forged, so each walk has an end; no compiler comes near to these.
 MOST_SECTIONS = 1000
 LONGEST_NAME = 200
-LONGEST_NUMBER = 10
-LONGEST_CHAIN = 4
+LONGEST_NUMBER = 10         # bytes of a LEB128 number of 64 bits
+LONGEST_CHAIN = 4           # from a copy to its definition
 Told = Union[int, str, bytes]
 # A tag, whether it has entries below, (name, form, value)
 Abbreviation = Tuple[int, bool, List[Tuple[int, int, int]]]

@@ -14,7 +14,7 @@ BASE = 6
 BETWEEN = 7
 LENGTH = 8
 VIEWS = 9
-LONGEST_LIST = 1000
+LONGEST_LIST = 1000         # entries: files may be forged, and no compiler comes near to it
 
 
 class Location(NamedTuple):

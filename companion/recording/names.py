@@ -23,7 +23,7 @@ the function and the line of its address. If names follow, it prints the address
 ELF is the program with its names and lines (gcc -g); the log may be of the same program stripped.
 Lines come from addr2line of binutils or LLVM; without one there are the names of ELF's symbols, and
 without these the rows alone.""")
-CHUNK = 1 << 16
+CHUNK = 1 << 16         # bytes of out at a time: what the program sends at once
 
 
 class Filter:

@@ -13,7 +13,7 @@ from ..call.text import clean
 
 SUFFIXES = (".c", ".h", ".s", ".S", ".cc", ".cpp", ".cxx", ".hpp", ".hh", ".inc", ".rs",
             ".zig", ".adb", ".f90", ".go")
-LARGEST = 4 << 20
+LARGEST = 4 << 20       # bytes that are read of a source: of a larger one the first lines
 SYSTEM = "/proc/", "/sys/"      # files there look like regular ones
 LATER = 60                      # seconds: a checkout writes files in any order
 

@@ -58,9 +58,9 @@ def junit_text(table: Table) -> str:
             lines.append(f"<failure message={message}>{cleaned(said)}</failure>")
         lines.append("</testcase>")
     for why, files in unread:
-        lines.append(
-            f"<testcase classname=\"unread\" name={quoted(why)}><error "
-            f"message={quoted(counted(len(files), 'log'))}>{cleaned(files[0].name)}</error></testcase>")
+        message = quoted(counted(len(files), "log"))
+        lines.append(f"<testcase classname=\"unread\" name={quoted(why)}><error message={message}>"
+                     f"{cleaned(files[0].name)}</error></testcase>")
     return "\n".join(lines + ["</testsuite>", ""])
 
 

@@ -17,7 +17,7 @@ ELF_HEAD = struct.Struct("<6s10xHH")
 A_PROGRAM = b"\x7fELF\1\1", 2, 243              # of 32 bits, that can be run, for RISC-V
 CACHE_BEGINS = '{"zelkuma": "digests of ELF files"'
 CACHE = text_kind("a cache of zelkuma", CACHE_BEGINS, "}\n", "\n")
-MOST_LOGS = 100000
+MOST_LOGS = 100000      # each has an entry in memory; a folder of more is parted by whoever calls
 
 
 class File(NamedTuple):

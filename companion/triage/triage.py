@@ -21,7 +21,7 @@ from .store import MOST_LOGS, File, Logs, Store, find_logs, missing_elf
 from .table import Group, Table, day
 from .work import MOST_BYTES, MOST_SECONDS, READ, UNREAD, WHY_SECONDS, Answer, Task
 
-MOST_SUSPECTS = 20
+MOST_SUSPECTS = 20      # causes whose first suspect is asked for: seconds each
 HELP = Help(
     "triage DIR.. --elfs DIR [--json FILE] [--junit FILE] [--html FILE] [--fail]",
     "the logs of folders in one table: how often each cause",

@@ -16,7 +16,7 @@ EDGES = 6000
 EDGE_STEPS = 1500       # the even half takes its Edges from so many equal parts of the rows
 SEGMENTS = 2500         # switches of each hart in the page at most
 STRIP_SPOTS = 24000     # rows whose function is asked for, of all harts together
-SOURCE_LENGTH = 90
+SOURCE_LENGTH = 90      # letters of a line: the panel has room for these
 
 
 class PageEdge(NamedTuple):

@@ -9,7 +9,7 @@ from .data import Page, PageEdge
 ROWS = 45000            # in the page at most
 CALLS = 24              # innermost calls that a stack tells
 SPOTS = 1200            # points over the whole run with some rows around each
-EDGES_WITH_ROWS = 400
+EDGES_WITH_ROWS = 400   # the last Edges, whose rows a click shows
 
 
 @dataclass

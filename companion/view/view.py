@@ -56,11 +56,12 @@ source of the program. Rows, intervals, Edges and races are the program's, suspe
 judgement.""")
 SCRIPTS = ("model.js", "questions.js", "timeline.js", "arrows.js", "story.js", "rows.js",
            "panels.js", "chain.js", "controls.js")
-RACES_ASKED = 20000
+# In the page at most, which is to open at once
+RACES_ASKED = 20000     # lines of `races`
 RACE_GROUPS = 40
-ARCS = 12
-SUSPECTS = 3
-ORIGINS = 6
+ARCS = 12               # of a group: more of them hide each other
+SUSPECTS = 3            # as `why` tells in brief
+ORIGINS = 6             # as `why` tells
 WAY_ROWS = 400          # of a way through the history are read at most
 
 

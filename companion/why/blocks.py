@@ -16,9 +16,9 @@ from ..recording.instruction import JUMP, RA
 from ..recording.rows import LOADS, STORES
 from ..recording.trace import Trace
 
-LOWEST = 4096
-NEAR = 1024
-LARGEST = 1 << 16
+LOWEST = 4096               # the first page is no memory: smaller results are numbers or errors
+NEAR = 1024                 # a result so near to an argument is a pointer into what was given
+LARGEST = 1 << 16           # bytes behind a block's begin that may be its own: its size isn't known
 # So many of the latest calls and returns are looked at, which bounds the memory
 MOST_JUMPS = 500000
 STEPS = 600                 # so many rows are looked at for the block that a pointer came from

@@ -12,14 +12,13 @@ from .loops import codes_of, operands_of, pairs_of, times_of
 from .lost import cut_behind
 from .suspect import Extra, Suspect
 
-# What these signs are worth
-EQUAL = 10
-CUT = 8
-# What the usual way of a branch costs more, and how often it has to have come
-USUAL = 2
-USUAL_ROWS = 20
-ENTRY = 12                  # what a branch of the code that sets up a hart costs more
-MOST = 40                   # branches that are looked at
+# What a sign is worth, in steps of a history along values (an address is 12)
+EQUAL = 10                  # bounds that are the same are seldom compared by `<` on purpose
+CUT = 8                     # a value that lost bits: less, since hashes lose them on purpose
+USUAL = 2                   # less, if it went its usual way: weak, as a bad value goes it, too
+USUAL_ROWS = 20             # so often that one in twenty would be seen
+ENTRY = 12                  # less: the code that sets up a hart is right in all other runs
+MOST = 40                   # branches that are looked at: twelve suspects are told at most
 ORDERS = "blt", "bge"
 BEFORE = {"control": "before", "kept": "so this kept its value in",
           "spared": "so a word beside what it compared kept its value in",

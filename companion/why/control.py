@@ -16,9 +16,8 @@ MOST_PLACES = 4000          # so many places are looked at for a way round
 MOST_ROWS = 2000            # so many rows are looked at for a branch
 MOST_STEPS = 24             # rows of a value that are looked at for the load that it came from
 BESIDE = 32                 # how near the words of an object are
-# Stores to a word before one, and calls over each
-MOST_WRITERS = 20
-WRITERS_CALLS = 2
+MOST_WRITERS = 20           # stores to a word before one: older ones are of other uses of it
+WRITERS_CALLS = 2           # calls over each: a setter, and who calls it
 
 
 class Control:

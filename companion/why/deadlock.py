@@ -14,9 +14,8 @@ from .locks import name_of
 from .loops import Loop
 from .suspect import Extra, Suspect
 
-# What a circle is worth, less if a lock was taken often in the same call
-CIRCLE = 12
-MOST_TIMES = 1000
+CIRCLE = 12                 # what a circle is worth: as much as an address, since none is sound
+MOST_TIMES = 1000           # a lock that was taken more often in the same call is a loop's own
 EMPTY = re.compile(r" \| load \w{8}=00000000 \| store ")
 
 

@@ -18,7 +18,7 @@ from .earlier import Asked, Earlier
 from .lock_words import Setting, setting
 from .loops import Loop
 
-LAST_ROWS = 12
+LAST_ROWS = 12              # before the start, that the report shows: half a screen
 # What a hart did last, if it didn't fault
 LOOP_ROWS = 300
 MOST_LOADS = 12

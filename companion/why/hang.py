@@ -11,7 +11,7 @@ from .facts import Facts
 from .loops import Exit, Loop, Operand
 from .origins import came_from
 
-# How many are told
+# How many are told: all is to fit a screen, and with --more two
 EXITS = 4
 STOPPED = 6
 WORDS = 6

@@ -16,36 +16,36 @@ from ..recording.writers import KEPT
 from .control import Control
 
 MOST_ROWS = 150000          # the search is cut off there: it keeps two entries a row
-ADDRESS = 12
-OUTPUT_ADDRESS = 6
-FROM_FILE = 3               # a step along the address of a word that no row stored
-FILLED = 4                  # a step to where the words beside a word were stored that never was
-DECISION = 14               # a branch before the row
-DECIDING_ROWS = 300
-MOST_BRANCHES = 24
-CONTROL = 12  # the branch that decided of a row
-OUTPUT_CONTROL = 8  # of a row of an output
-NEXT_CONTROL = 4  # of a branch
-# Places that stored what a load loads, of which it is asked if a branch went past them
-MOST_GIVERS = 8
-# How often it is asked what decided of a row
+# What a step costs, where one along a value costs 1. The sizes were set by looking at few programs
+# (tests/crashes/README.md); what each is for:
+ADDRESS = 12                # a dozen values come first: most addresses are of tables, lists, stacks
+OUTPUT_ADDRESS = 6          # a wrong byte is often a right one from a wrong place
+FROM_FILE = 3               # no row stored the word, so its address is all that can be wrong
+FILLED = 4                  # a 0 that none stored, to where its neighbours were: a guess
+DECISION = 14               # a branch before the start, which may have nothing to do with it
+CONTROL = 12                # the branch that decided of a row: each row has one, as an address
+OUTPUT_CONTROL = 8          # of a row of an output, which more often is the wrong one to be reached
+NEXT_CONTROL = 4            # of a branch: a condition of several terms is several branches
+SPARED = 4                  # the branch that spared a word of the object whose value it compared
+AWAITED = 4                 # the branch by which another hart didn't store what a loop waits for
+# How far it is asked. What is dearer than these has too many rows to tell one from another.
+DECIDING_ROWS = 300         # before the start: farther back other functions ran
+MOST_BRANCHES = 24          # of those; each fourth costs 1 more, so the last costs DECISION and 6
+DEAREST_CONTROL = 40        # three addresses and a few values from the start
+DEAREST_FILLED = 6          # the loads right before the start
+DEAREST_SPARED = 16         # an address and a few values
+NEAR_LOOP = 3               # what is further from a loop's exit isn't what it waits for
+KEPT_ROWS = 50              # a store nearer to its load is of the same statement or round
+# How often it is asked: each time rows are read again, and `why` has seconds.
 MOST_CONTROL = 2000
 MOST_KEPT = 400
 MOST_FILLED = 4
-DEAREST_CONTROL = 40
-DEAREST_FILLED = 6
-KEPT_ROWS = 50
-# The branch that spared a word of the object whose value it compared
-SPARED = 4
-DEAREST_SPARED = 16
 MOST_SPARED = 100
-# The branch by which another hart didn't store what a loop waits for
-AWAITED = 4
-NEAR_LOOP = 3
+MOST_GIVERS = 8             # places that stored what a load loads: a branch may have passed them
 WIDENS = "srai", "srli"     # the second of two shifts that widen a value
 STORES_ANOTHER = "amoswap", "sc."       # atomics whose stored word owes nothing to the loaded one
-FAR = 1000                  # a store so many rows before its load is far
-MOST_INLINED = 8            # functions that are inlined in one place
+FAR = 1000                  # rows from a store to its load: nearer ones are of one computation
+MOST_INLINED = 8            # functions inlined in one place that are told: a line has no more room
 NO_REGISTER = 0                         # memory
 # How the first rows are needed
 START = "start"

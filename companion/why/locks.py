@@ -12,10 +12,9 @@ from .history import History
 from .lock_words import Setting
 from .suspect import Extra, Suspect
 
-# How often a guarded word is accessed with its lock at least, and how much rarer without
-LEAST = 3
-RARE = 3
-UNLOCKED = 12
+LEAST = 3                   # accesses with a lock that make a word one that it guards
+RARE = 3                    # those without are so many times rarer: else the lock guards another
+UNLOCKED = 12               # what the sign is worth: an address, as it names a rule that was broken
 
 
 class Held(NamedTuple):

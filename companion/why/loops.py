@@ -22,9 +22,8 @@ NO_CODE = -1
 MOST_CUTS = 12              # how many sets of places are tried
 OFTEN = 3                   # how often a place ran that then stopped
 LOW = 0xffffffff            # the bits of one of a pair
-# How many stores of each place are looked at for words that change, and how far back
-LATEST = 6
-LATEST_ROWS = 50000
+LATEST = 6                  # stores of each place that are looked at for words that change
+LATEST_ROWS = 50000         # and how far back: a loop of longer rounds isn't seen as one
 
 
 class Operand(NamedTuple):

@@ -14,9 +14,8 @@ MASKS = {(1 << width) - 1: width for width in range(4, 12)}
 KEPT = {16: 16, 24: 8}      # the bits that two shifts by so many keep
 SUMS = "add", "addi", "sub", "or", "ori"
 UNSIGNED = "bltu", "bgeu", "sltu", "sltiu"      # what compares without signs
-# Rows that are looked at behind a value, and on the way to its use
-STEPS = 14
-MOST_SUMS = 8
+STEPS = 14                  # rows that are looked at behind a value: an expression has fewer
+MOST_SUMS = 8               # sums on the way to its use
 
 
 def cut_behind(trace: Trace, row: int) -> Optional[Extra]:

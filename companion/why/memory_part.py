@@ -12,7 +12,7 @@ from ..recording.answers import LONGEST
 from .analysis import Analysis
 
 HEAD = "MEMORY ERRORS, as they happened (`zelkuma memory` tells all)"
-TOLD = 3
+TOLD = 3                    # findings: as many as suspects in brief
 
 
 class MemoryErrors:

@@ -12,11 +12,10 @@ from .blocks import Block, Blocks
 from .facts import Facts
 from .suspect import Extra, Suspect
 
-GIVEN_BACK = 16
-# What such a suspect costs, and how many there may be: else a taker is none
-TWICE = 8
-MOST_TWICE = 3
-MOST_COPIES = 2             # lines that stored copies of a pointer
+GIVEN_BACK = 16             # what the sign is worth, over an address: no sound program does it
+TWICE = 8                   # what giving back twice costs: it has no way to the fault of its own
+MOST_TWICE = 3              # if more are, the function takes something else than memory
+MOST_COPIES = 2             # lines that stored copies of a pointer: the report has no room for more
 
 
 class MemoryUse:

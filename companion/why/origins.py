@@ -8,8 +8,8 @@ from ..recording.log import Log
 from .facts import Facts
 from .history import History
 
-LARGEST_LOG = 1 << 28
-MOST_LOADS = 400
+LARGEST_LOG = 1 << 28       # bytes: the largest that `record --log-size` makes
+MOST_LOADS = 400            # that are asked of: the report tells twenty places
 MOST_FRAMES = 4
 
 

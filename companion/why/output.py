@@ -34,9 +34,9 @@ HELP = Help(
 explains one. Of the calls over a write those of a library, whose source isn't here, are passed. The
 text is put together from the rows of `joint`: bytes that no row loaded or stored, and that the file
 doesn't give for sure, are told as unknown.""")
-MOST_ROWS = 32000000
-MOST_FRAMES = 4
-MOST_RANGES = 8
+MOST_ROWS = 32000000        # in arrays some 30 bytes each: a gigabyte
+MOST_FRAMES = 4             # calls over a write
+MOST_RANGES = 8             # of bytes that aren't known, told in one line
 MOST_LIBRARY_CALLS = 16     # over a write: a library's printf has eight of its own
 UNKNOWN = "\ufffd"          # in place of a byte that isn't known
 ASKED = b" 00000073 ecall"

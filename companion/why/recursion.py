@@ -9,9 +9,8 @@ from ..recording.trace import Trace
 from .suspect import Suspect
 
 DEEP = 500                  # calls
-# Deeper than a sound program goes, and before the stack can have damaged anything
-ASKED_FROM = 250
-ASKED_CALLS = 64
+ASKED_FROM = 250            # deeper than a sound program goes, and before the stack did damage
+ASKED_CALLS = 64            # calls from there that are looked at: a circle of functions has fewer
 COST = 2
 
 

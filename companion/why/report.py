@@ -16,6 +16,7 @@ from .returned import middle_lines, null_lines
 from .stack_room import stack_lines
 from .suspect import ALONE, DID, NEW_OWNER, Suspect
 
+# How many are told: in brief a dozen lines, else a screen, and with --more several
 BRIEF_SUSPECTS = 3
 FIRST_SUSPECTS = 5
 MORE_SUSPECTS = 12
@@ -23,9 +24,10 @@ LINES = 10
 MORE_LINES = 40
 ORIGINS = 6
 MORE_ORIGINS = 20
+# Letters of a row and of a line of text, so that with what stands before a line fits most terminals
 ROW_WIDTH = 84
 TEXT_WIDTH = 78
-MOST_CALLS = 9
+MOST_CALLS = 9              # calls over a place; of more the outermost are the same for all
 SUSPECTS = ("likeliest first (a load and the store that it got; "
             "what a call did to the memory; a branch)")
 

@@ -25,30 +25,28 @@ from .memory_use import MemoryUse
 from .suspect import Extra, Suspect, rank
 from .unread import failed_stores, unset
 
-OTHER_HART = 8
-NARROW = 12
-RACE = 6
-OTHER_FUNCTION = 3
-RARITY = 5
-# What a near store is worth less that a load always got, if it ran so often
-COMMON = 10
-COMMON_ROWS = 8
-# The store that closed a circle, and how near to the loop its load is
-CLOSES = 8
-CLOSE = 3
-FOLLOWED_ROWS = 400         # the last rows of a loop, in which the pointers are that it follows
-# What a suspect costs more whose line another tells, and if it tells no new line at all
-AGAIN = 6
-NOTHING_NEW = 40
+# What a sign is worth, in steps of a history along values. ADDRESS is 12 of them.
+OTHER_HART = 8              # harts share few words, and a value from elsewhere is soon too old
+NARROW = 12                 # a word of parts is nearly always in a wrong place
+RACE = 6                    # with OTHER_HART, which it never is without, more than an address
+OTHER_FUNCTION = 3          # weak: stacks and pools are used again by right programs, too
+RARITY = 5                  # for each power of ten: one load in a hundred is nearly an address
+COMMON = 10                 # less: a near store that a load always got did no harm before
+COMMON_ROWS = 8             # of so many loads: "always" says nothing of fewer
+NEAR_STORE = 6              # less: half an address, since the statement before stored most words
+CLOSES = 8                  # the store that closed a circle, as strong as another hart's
+CLOSE = 3                   # values from the loop to that store's load: it follows no others
+AGAIN = 6                   # less, if another tells its line: one beside comes first
+NOTHING_NEW = 40            # less, if it tells no new line: no signs make up for it
+# A store in a wrong place: its address, and the branch that should have kept it away.
+MOST_FOR_PLACE = 6          # of the store's own signs: else all behind it would come before others
+GUARD = 2                   # that branch is nearly as near as a value
+BEHIND_PLACE = 3            # more than the store costs, so that this comes first
+# How many are looked at. Three suspects are told at first, twelve at most.
+FOLLOWED_ROWS = 400         # the last rows of a loop: some rounds of one that follows pointers
 MOST_COMPARED = 40          # suspects whose lines are compared
-# Suspects whose stores' addresses are asked of, and rows of such a history
-FIRST_ONES = 3
-PLACE_ROWS = 2000
-MOST_FOR_PLACE = 6          # what the store's own signs are worth to these at most
-# What the branch before such a store costs, and what all costs more than the store
-GUARD = 2
-BEHIND_PLACE = 3
-NEAR_STORE = 6              # what a near store is worth less
+FIRST_ONES = 3              # whose stores' addresses are asked of
+PLACE_ROWS = 2000           # rows of such a history
 MOST_LOOKED_AT = 60         # pairs of loads and stores whose rows are read
 SIZES = {1: "bytes", 2: "halves"}, {2: "half", 4: "word"}
 

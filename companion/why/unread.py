@@ -12,12 +12,11 @@ from .facts import Facts
 from .history import History
 from .suspect import Extra, Suspect
 
-UNREAD = 12
-UNSET = 14
+UNREAD = 12                 # what the sign is worth: an address, since the store is taken for done
+UNSET = 14                  # and more: what a call never stored is no value of the program's
 MOST_READERS = 64           # rows behind a store-conditional that may read its answer
-# Loads that are looked at, and rows of the stack's pointer behind each
-MOST_LOADS = 400
-MOST_FRAMES = 1000
+MOST_LOADS = 400            # that are looked at: the history's nearest
+MOST_FRAMES = 1000          # rows of the stack's pointer behind each: deeper calls are a recursion
 
 
 def failed_stores(facts: Facts, history: History) -> list[Suspect]:

@@ -17,7 +17,8 @@ A4 = 718, 1040              # what is left of a page in CSS pixels, with the pag
 OUTSIDE = """(() => { const box = document.getElementById('timeline').getBoundingClientRect();
   return [...document.querySelectorAll('#timeline text')].filter(text => {
     const b = text.getBoundingClientRect();
-    return b.left < box.left - 2 || b.right > box.right + 2; }).map(text => text.textContent); })()"""
+    return b.left < box.left - 2 || b.right > box.right + 2;
+  }).map(text => text.textContent); })()"""
 OVERLAPS = """(() => { const all = [...document.querySelectorAll('#timeline text')].map(
     t => [t.textContent, t.getBoundingClientRect()]);
   const found = []; all.forEach(([a, p], i) => all.slice(0, i).forEach(([b, q]) => {
