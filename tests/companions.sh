@@ -27,7 +27,7 @@ counts() { # FILE
     echo "== $1"
     cat "$said"
     sed -n "s/^\(.*\) \.\.\. skipped \(.*\)/skipped: \1: \2/p" "$said"
-    end=$(tail -n 3 "$said")
+    end=$(grep -E '^(Ran [0-9]+ test|OK|FAILED)' "$said" | tail -n 2) # (what a test prints can follow it)
     ran=$(number "Ran " "$end") bad=$(($(number failures= "$end") + $(number errors= "$end"))) without=$(number skipped= "$end")
     [[ $end == *OK* || $bad -gt 0 ]] || bad=1
     failed=$((failed + bad)) skipped=$((skipped + without))

@@ -18,10 +18,13 @@ failures=0
 pages=(README.md docs/COMMANDS.md examples/README.md tests/pages/examples.md)
 line_pages=(docs/{GUIDE,WHY,SHRINK,VIEW,GDB,PYTHON,AT,RUN,MEMORY}.md)
 
-# Runs words in the root, as a new user has them, at the top of a checkout.
+# Runs words in the root, as a new user has them, at the top of a checkout. The root is the whole file system then: in one of chroot
+# no test could mount anything.
 inside() { # WORD..
-    unshare --mount --pid --fork chroot "$work/root" /usr/bin/env -i HOME=/root LANG=C.UTF-8 PATH=/usr/sbin:/usr/bin:/sbin:/bin DEBIAN_FRONTEND=noninteractive \
-        /bin/bash -c 'mount -t proc proc /proc && mkdir -p /dev/shm /dev/pts && mount -t devpts -o newinstance,ptmxmode=0666 devpts /dev/pts &&
+    unshare --mount --pid --fork bash -c 'mount --bind "$0" "$0" && mkdir -p "$0/before" && cd "$0" && pivot_root . before &&
+        exec chroot . /usr/bin/env -i HOME=/root LANG=C.UTF-8 PATH=/usr/sbin:/usr/bin:/sbin:/bin DEBIAN_FRONTEND=noninteractive "$@"' "$work/root" \
+        /bin/bash -c 'mount -t proc proc /proc && umount -l /before && mkdir -p /dev/shm /dev/pts &&
+            mount -t devpts -o newinstance,ptmxmode=0666 devpts /dev/pts &&
             ln -sf pts/ptmx /dev/ptmx && ln -sfn /proc/self/fd /dev/fd && cd /zelkuma && exec "$@"' bash "$@" </dev/null
 }
 

@@ -106,6 +106,10 @@ def without(place):
     return prepare
 
 
+def can_mount():
+    return not subprocess.run(["true"], preexec_fn=without("/dev/shm"), check=False).returncode
+
+
 def another_user():
     os.setsid()
     os.setgroups([])
@@ -219,9 +223,11 @@ def settings():
     for what, (number, values) in LIMITS.items():
         yield from ((f"{what} {value}", limited(number, value), what == "time", False)
                     for value in values)
+    places = ("/proc", "/dev/shm") if can_mount() else ()
+    if not places:
+        print("skipped: calls without /proc or /dev/shm: to mount there isn't permitted")
+    yield from ((f"without {place}", without(place), False, False) for place in places)
     if not os.geteuid():
-        yield from ((f"without {place}", without(place), False, False)
-                    for place in ("/proc", "/dev/shm"))
         yield from (("another user's files" + ", sticky" * sticky, another_user, False, sticky)
                     for sticky in (False, True))
 

@@ -253,7 +253,7 @@ if unshare -rm true 2>/dev/null; then
     sort "$work/out" >"$work/files"
     equals "$work/wanted" "$work/files"
 else
-    skips "no /dev/fd: there is no unshare"
+    skips "no /dev/fd: unshare isn't here, or isn't permitted"
 fi
 runs 3 "$sources/zelkuma" uninstall "$work/nothing"
 runs 2 "$sources/zelkuma" uninstall
@@ -363,8 +363,8 @@ has out "zelkuma list LOG"
 [ ! -e "$work/called" ] || fails "the toolchain was called"
 
 what="a package"
-if ! type -P dh >/dev/null; then
-    skips "the package: debhelper isn't here"
+if ! type -P dh >/dev/null || ! (cd "$top" && dpkg-checkbuilddeps) 2>/dev/null; then
+    skips "the package: debhelper or build-essential isn't here"
     end
 fi
 # Builds the package of these sources, in a folder of their own: it lies beside them then.

@@ -77,7 +77,7 @@ touch "$work/kit/c/"lib{os,libc}_c.a "$work/kit/rattle/logic/antt-project.json"
 mkdir "$tree/tests" "$tree/release"
 cp -r "$top/"{zelkuma,VERSION,tools,packaging} "$tree"
 mkdir "$tree/examples" && cp -r "$top/examples/"{bare,lib,picolibc} "$tree/examples"
-cp "$top/release/COMMIT" "$tree/release"
+echo '$Format:%H$' >"$tree/release/COMMIT" # as in a checkout; an exported tree has the commit there
 printf '# Changes\n\n## Unreleased\n\nA change.\n' >"$tree/CHANGELOG.md"
 cp "$top/tests/release.sh" "$tree/tests"
 cat >"$tree/crates.txt" <<'END'
