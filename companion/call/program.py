@@ -11,7 +11,7 @@ from .children import start
 from .errors import CompanionError
 from .streams import STOPS
 
-BUFFER = 1 << 20            # bytes: 16 of the program's own pieces, so that few reads are waited for
+BUFFER = 1 << 20            # bytes: sixteen of what the program sends at once
 NOT_BUILT = 1
 LONGEST_REFUSAL = 1 << 16   # bytes of err that are read for its last line, a name of 4,096 within
 
