@@ -14,7 +14,8 @@ from ..call import streams
 from ..call.errors import UNWRITABLE, CompanionError
 
 LONGEST = 1 << 16  # more bytes than that without an end are no packet of gdb: PACKET_SIZE is less
-PACKET_SIZE = 0x4000        # bytes of a packet, as gdb is told: it asks for more memory by more packets
+# Bytes of a packet, as gdb is told: it asks for more memory by more packets
+PACKET_SIZE = 0x4000
 INTERRUPT = b"\x03"
 
 

@@ -21,19 +21,23 @@ def is_bad(size: int, register: int) -> str:
     or it is 0."""
     by_bytes = f"states[place:place + {size}] != zeros{size}"
     outside = f"(place < thing.low or place + {size} > thing.high)"
-    return f"{by_bytes} or (thing := tags[{register}]) is not None and {outside}" if register else by_bytes
+    return (f"{by_bytes} or (thing := tags[{register}]) is not None and {outside}" if register
+            else by_bytes)
 
 
 class Accesses:
     def __init__(self, checks: Checks, hart: Hart) -> None:
-        self.checks, self.hart = checks, hart
+        self.checks = checks
+        self.hart = hart
 
     def is_known_place(self, one: Operation) -> bool:
-        """Whether an access is to a constant address, or to a place of the frame by a constant: these are the program's own."""
+        """Whether an access is to a constant address, or to a place of the frame by a constant:
+        these are the program's own."""
         base = one.base
         if base is None or base.indexed:
             return False
-        return base.to == ABSOLUTE or base.to == IN_FRAME and one.stack is not None and one.stack.to == IN_FRAME
+        return (base.to == ABSOLUTE
+                or base.to == IN_FRAME and one.stack is not None and one.stack.to == IN_FRAME)
 
     def is_free(self, one: Operation) -> bool:
         """Whether nothing is known of an access by a constant with an index."""
@@ -42,22 +46,31 @@ class Accesses:
     def restores(self, one: Operation) -> bool:
         """Whether a load takes back a register that was saved in the frame."""
         slots = self.checks.facts.slots.get(self.checks.facts.program.function_at(one.pc).first, {})
-        return bool(one.base and one.base.to == IN_FRAME and one.rs1 == SP and slots.get(one.base.offset + one.imm) == one.rd)
+        return bool(one.base and one.base.to == IN_FRAME and one.rs1 == SP
+                    and slots.get(one.base.offset + one.imm) == one.rd)
 
     def of_load(self, one: Operation) -> Act:
         limit = self.checks.parts.limit(one)
         if limit is not None:
             self.checks.judge.limited.add(one.pc)
             return self.load(one, limit)
-        if self.is_known_place(one) and one.base and (one.base.to == ABSOLUTE or self.restores(one)):
+        if self.is_known_place(one) and one.base and (one.base.to == ABSOLUTE
+                                                      or self.restores(one)):
             return self.plain_load(one)
         return self.load(one, no_limit if self.is_free(one) or self.is_known_place(one) else None)
 
     def plain_load(self, one: Operation) -> Act:
-        """Of a place that is the program's own: nothing can be wrong, but bits may be undefined that were copied there."""
-        hart, checks = self.hart, self.checks
-        tags, rows, words, states = hart.tags, hart.rows, checks.memory.tags, checks.memory.states
-        rd, size, is_word = one.rd, one.width, one.width == 4
+        """Of a place that is the program's own: nothing can be wrong, but bits may be undefined
+        that were copied there."""
+        hart = self.hart
+        checks = self.checks
+        tags = hart.tags
+        rows = hart.rows
+        words = checks.memory.tags
+        states = checks.memory.states
+        rd = one.rd
+        size = one.width
+        is_word = one.width == 4
         if not rd:
             return nothing
 
@@ -68,24 +81,34 @@ class Accesses:
             if rd == SP:
                 checks.stacks.set(hart, value_of(row), row, one)
             elif states[address] > ENDED:
-                return checks.undefined.loaded(hart, one, address, checks.memory.undefined_bits(address, size))
+                return checks.undefined.loaded(hart, one, address,
+                                               checks.memory.undefined_bits(address, size))
             return None
         if rd != SP:
             hart.texts[act] = "states[place] > ENDED", loaded(rd, is_word)
         return act
 
     def load(self, one: Operation, limit: Optional[Limit]) -> Act:
-        """`limit` is what tells the thing that an address misses; without it the register's tag does."""
-        hart, checks = self.hart, self.checks
-        tags, rows, states, words = hart.tags, hart.rows, checks.memory.states, checks.memory.tags
-        rd, rs, size, zeros = one.rd, one.rs1, one.width, ZEROS[one.width]
+        """`limit` is what tells the thing that an address misses; without it the register's tag
+        does."""
+        hart = self.hart
+        checks = self.checks
+        tags = hart.tags
+        rows = hart.rows
+        states = checks.memory.states
+        words = checks.memory.tags
+        rd = one.rd
+        rs = one.rs1
+        size = one.width
+        zeros = ZEROS[one.width]
         is_word = size == 4
 
         def act(row: bytes) -> Optional[bool]:
             address = int(row[-17:-9], 16)
             thing = tags[rs] if limit is None else limit(hart, address)
             bits = 0
-            if states[address:address + size] != zeros or thing is not None and (address < thing.low or address + size > thing.high):
+            if (states[address:address + size] != zeros
+                    or thing is not None and (address < thing.low or address + size > thing.high)):
                 bits = checks.judge.load(Access(hart, row, one, address, size, False, rs), thing)
             if rd:
                 tags[rd] = words[address >> 2] if is_word and not bits else None
@@ -101,12 +124,15 @@ class Accesses:
 
     def of_store(self, one: Operation) -> Act:
         """If sp itself is stored, that makes a pointer to the frame's first variable."""
-        act, is_made = self.store_of(one), one.rs2 == SP and one.width == 4
-        value = one.other if is_made and one.other and one.other.to == IN_FRAME and not one.other.indexed else None
+        act = self.store_of(one)
+        is_made = one.rs2 == SP and one.width == 4
+        value = (one.other if is_made and one.other and one.other.to == IN_FRAME
+                 and not one.other.indexed else None)
         thing_at = frame_thing(self.checks, self.hart, one, value) if value else None
         if thing_at is None:
             return act
-        hart, made = self.hart, thing_at
+        hart = self.hart
+        made = thing_at
 
         def store(row: bytes) -> Optional[bool]:
             hart.tags[SP] = made(hart.sp)
@@ -125,11 +151,20 @@ class Accesses:
         return self.store(one, no_limit if self.is_free(one) else None)
 
     def plain_store(self, one: Operation, is_own: bool) -> Act:
-        """To a place that is the program's own; of the frame it is written then, or holds a saved register."""
-        hart, checks = self.hart, self.checks
-        memory, tags, rs2, size = checks.memory, hart.tags, one.rs2, one.width
-        states, words, sorts = memory.states, memory.tags, checks.pointers.sorts
-        zeros, saves, is_word = ZEROS[size], one.saves, size == 4
+        """To a place that is the program's own; of the frame it is written then, or holds a saved
+        register."""
+        hart = self.hart
+        checks = self.checks
+        memory = checks.memory
+        tags = hart.tags
+        rs2 = one.rs2
+        size = one.width
+        states = memory.states
+        words = memory.tags
+        sorts = checks.pointers.sorts
+        zeros = ZEROS[size]
+        saves = one.saves
+        is_word = size == 4
 
         def act(row: bytes) -> Optional[bool]:
             address = int(row[-17:-9], 16)
@@ -151,15 +186,24 @@ class Accesses:
         return act
 
     def store(self, one: Operation, limit: Optional[Limit]) -> Act:
-        hart, checks = self.hart, self.checks
-        memory, tags, rs, rs2 = checks.memory, hart.tags, one.rs1, one.rs2
-        size, zeros = one.width, ZEROS[one.width]
-        states, words, sorts, is_word = memory.states, memory.tags, checks.pointers.sorts, size == 4
+        hart = self.hart
+        checks = self.checks
+        memory = checks.memory
+        tags = hart.tags
+        rs = one.rs1
+        rs2 = one.rs2
+        size = one.width
+        zeros = ZEROS[one.width]
+        states = memory.states
+        words = memory.tags
+        sorts = checks.pointers.sorts
+        is_word = size == 4
 
         def act(row: bytes) -> Optional[bool]:
             address = int(row[-17:-9], 16)
             thing = tags[rs] if limit is None else limit(hart, address)
-            if states[address:address + size] != zeros or thing is not None and (address < thing.low or address + size > thing.high):
+            if (states[address:address + size] != zeros
+                    or thing is not None and (address < thing.low or address + size > thing.high)):
                 checks.judge.store(Access(hart, row, one, address, size, True, rs), thing)
             words[address >> 2] = tag = tags[rs2] if is_word else None
             if sorts[address >> 2]:
@@ -171,18 +215,27 @@ class Accesses:
         return act
 
     def of_atomic(self, one: Operation) -> Act:
-        hart, checks = self.hart, self.checks
-        tags, words, states = hart.tags, checks.memory.tags, checks.memory.states
-        keeps, gives = one.name in ("amoswap", "sc"), one.name in ("lr", "amoswap")
+        hart = self.hart
+        checks = self.checks
+        tags = hart.tags
+        words = checks.memory.tags
+        states = checks.memory.states
+        keeps = one.name in ("amoswap", "sc")
+        gives = one.name in ("lr", "amoswap")
 
         def act(row: bytes) -> None:
-            at, old = max(row.rfind(b" | load "), row.rfind(b" | store ")), None
+            at = max(row.rfind(b" | load "), row.rfind(b" | store "))
+            old = None
             if at >= 0:
-                address, stores = int(row[-17:-9], 16), b"| store " in row
-                thing, old = tags[one.rs1], words[address >> 2]
-                if states[address:address + 4] != ZEROS[4] or thing is not None and not thing.holds(address, 4):
+                address = int(row[-17:-9], 16)
+                stores = b"| store " in row
+                thing = tags[one.rs1]
+                old = words[address >> 2]
+                if (states[address:address + 4] != ZEROS[4]
+                        or thing is not None and not thing.holds(address, 4)):
                     access = Access(hart, row, one, address, 4, stores, one.rs1)
-                    checks.judge.store(access, thing) if stores else checks.judge.load(access, thing)
+                    (checks.judge.store(access, thing) if stores
+                     else checks.judge.load(access, thing))
                 if stores:
                     words[address >> 2] = tags[one.rs2] if keeps else None
             if one.rd:

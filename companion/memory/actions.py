@@ -1,6 +1,8 @@
-"""What each instruction's rows do to what the checks keep: a function for each instruction of each hart, made when it first runs.
+"""What each instruction's rows do to what the checks keep: a function for each instruction of each
+hart, made when it first runs.
 
-A row is looked at as little as that needs: what is known of an instruction whatever the run is a constant of its function."""
+A row is looked at as little as that needs: what is known of an instruction whatever the run is a
+constant of its function."""
 from __future__ import annotations
 
 from typing import Dict, Optional
@@ -27,8 +29,13 @@ class Actions(Dict[bytes, Act]):
 
     def __init__(self, checks: Checks, hart: Hart) -> None:
         super().__init__()
-        self.checks, self.hart, self.careful, self.begin = checks, hart, Careful(self), 0
-        sums, accesses, calls = Sums(checks, hart), Accesses(checks, hart), Calls(checks, hart)
+        self.checks = checks
+        self.hart = hart
+        self.careful = Careful(self)
+        self.begin = 0
+        sums = Sums(checks, hart)
+        accesses = Accesses(checks, hart)
+        calls = Calls(checks, hart)
         self.makers = {LOAD: accesses.of_load, STORE: accesses.of_store, AMO: accesses.of_atomic,
                        JUMP: calls.of_jump, CALL: calls.of_system_call}
         self.sums = sums
@@ -48,14 +55,17 @@ class Actions(Dict[bytes, Act]):
         one = self.operation(key)
         hook = self.checks.heap.hooks.get(one.pc)
         if hook is not None:
-            hart, call, told = self.hart, self.checks.heap.call, hook
+            hart = self.hart
+            call = self.checks.heap.call
+            told = hook
 
             def take(row: bytes) -> bool:
                 call(hart, told, row)
                 return True
             found: Act = take
         elif one.kind == ALU:
-            found = self.sums.of_stack_pointer(one) if one.rd == SP else self.sums.of_sum(one) if one.rd else nothing
+            found = (self.sums.of_stack_pointer(one) if one.rd == SP
+                     else self.sums.of_sum(one) if one.rd else nothing)
         else:
             found = self.makers[one.kind](one) if one.kind in self.makers else nothing
         if one.pc == self.checks.copies:
@@ -65,28 +75,34 @@ class Actions(Dict[bytes, Act]):
 
     def of_copy(self, act: Act) -> Act:
         """Of the first instruction of memcpy, whose ranges may be the same but not overlap."""
-        hart, judge = self.hart, self.checks.judge
+        hart = self.hart
+        judge = self.checks.judge
 
         def check(row: bytes) -> Optional[bool]:
             to, source, size = (hart.value(A0 + at) for at in range(3))
-            if to is not None and source is not None and size is not None and 0 < abs(to - source) < size:
+            if (to is not None and source is not None and size is not None
+                    and 0 < abs(to - source) < size):
                 judge.tell_overlap(hart, row, size, size - abs(to - source))
             return act(row)
         return check
 
     def fault(self, row: bytes) -> None:
         """The row that ended the run."""
-        hart, checks = self.hart, self.checks
+        hart = self.hart
+        checks = self.checks
         one = checks.operation(pc_of(row), word_of(row))
         is_access = one.kind in (LOAD, STORE, AMO)
-        checks.undefined.used(hart, one, row, (one.rs1,), "an address depends" if is_access else "a jump depends")
+        checks.undefined.used(hart, one, row, (one.rs1,),
+                              "an address depends" if is_access else "a jump depends")
         thing = hart.tags[one.rs1] if is_access else None
         if thing is not None and not thing.holds(int(row[-8:], 16), one.width):
-            checks.judge.outside(Access(hart, row, one, int(row[-8:], 16), one.width, one.kind != LOAD, one.rs1), thing)
+            checks.judge.outside(Access(hart, row, one, int(row[-8:], 16), one.width,
+                                        one.kind != LOAD, one.rs1), thing)
 
 
 class Careful(Dict[bytes, Act]):
-    """The actions of a hart while a register has bits that nobody wrote; each is true once none has."""
+    """The actions of a hart while a register has bits that nobody wrote; each is true once none
+    has."""
 
     def __init__(self, actions: Actions) -> None:
         super().__init__()
@@ -98,5 +114,6 @@ class Careful(Dict[bytes, Act]):
         if key == FAULT:
             return act                          # (it asks of its row's instruction)
         one = actions.operation(key)
-        found = self[key] = actions.checks.undefined.around(actions.hart, one, act, actions.checks.heap.hooks.get(one.pc))
+        found = self[key] = actions.checks.undefined.around(actions.hart, one, act,
+                                                            actions.checks.heap.hooks.get(one.pc))
         return found

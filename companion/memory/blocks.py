@@ -28,8 +28,11 @@ class Blocks(Dict[bytes, Block]):
 
     def __init__(self, actions: Actions) -> None:
         super().__init__()
-        self.actions, self.checks, self.left = actions, actions.checks, MOST_BLOCKS
-        hart, memory = actions.hart, self.checks.memory
+        self.actions = actions
+        self.checks = actions.checks
+        self.left = MOST_BLOCKS
+        hart = actions.hart
+        memory = self.checks.memory
         self.names: Dict[str, Any] = {
             "tags": hart.tags, "written": hart.rows, "states": memory.states, "words": memory.tags,
             "sorts": self.checks.pointers.sorts, "ENDED": ENDED,
@@ -42,7 +45,9 @@ class Blocks(Dict[bytes, Block]):
         self.left = 0
 
     def __missing__(self, key: bytes) -> Block:
-        actions, length, times = self.actions, self.length(int(key[:8], 16)), 0
+        actions = self.actions
+        length = self.length(int(key[:8], 16))
+        times = 0
 
         def cold(text: bytes, at: int) -> int:
             nonlocal times
@@ -74,7 +79,8 @@ class Blocks(Dict[bytes, Block]):
     def make(self, keys: List[bytes], sizes: List[int], cold: Block) -> None:
         """Makes the function of a block whose rows have these keys, and so many letters."""
         self.left -= 1
-        checks, size = self.checks, sum(sizes) + len(sizes)
+        checks = self.checks
+        size = sum(sizes) + len(sizes)
         codes = [self.actions.operation(key) for key in keys]
         is_straight = all(one.pc == codes[0].pc + 4 * at for at, one in enumerate(codes))
         if not is_straight or any(one.kind in (BRANCH, JUMP) for one in codes[:-1]):
@@ -101,7 +107,8 @@ class Blocks(Dict[bytes, Block]):
         begin = 0
         for at, (one, act, size) in enumerate(zip(codes, acts, sizes)):
             end = begin + size
-            row, told = f"text[at + {begin}:at + {end}]", self.actions.hart.texts.get(act)
+            row = f"text[at + {begin}:at + {end}]"
+            told = self.actions.hart.texts.get(act)
             begin = end + 1
             calls = [*written(last), f"if act{at}({row}):", f"    return at + {begin}"]
             if told is None and act is not nothing:

@@ -14,11 +14,15 @@ from ..recording.log import FAILED, READ_CALL, WRITE_CALL
 
 class Calls:
     def __init__(self, checks: Checks, hart: Hart) -> None:
-        self.checks, self.hart = checks, hart
+        self.checks = checks
+        self.hart = hart
 
     def of_jump(self, one: Operation) -> Act:
-        hart, returns, rd = self.hart, self.hart.returns, one.rd
-        is_call, behind = one.call, one.pc + 4
+        hart = self.hart
+        returns = self.hart.returns
+        rd = one.rd
+        is_call = one.call
+        behind = one.pc + 4
         if one.ret:
             return self.of_return(one)
 
@@ -30,7 +34,10 @@ class Calls:
         return act if rd else nothing
 
     def of_return(self, one: Operation) -> Act:
-        hart, returns, rs, imm = self.hart, self.hart.returns, one.rs1, one.imm
+        hart = self.hart
+        returns = self.hart.returns
+        rs = one.rs1
+        imm = one.imm
         strayed = self.checks.stacks.strayed
 
         def act(row: bytes) -> None:
@@ -46,12 +53,15 @@ class Calls:
         return act
 
     def of_system_call(self, one: Operation) -> Act:
-        hart, checks = self.hart, self.checks
+        hart = self.hart
+        checks = self.checks
 
         def act(row: bytes) -> None:
-            number, buffer = hart.value(A7), hart.value(A1)
+            number = hart.value(A7)
+            buffer = hart.value(A1)
             result = value_of(row) if b"| a0=" in row else None
-            if buffer is not None and result is not None and 0 < result < FAILED and buffer + result <= checks.memory.size:
+            if (buffer is not None and result is not None and 0 < result < FAILED
+                    and buffer + result <= checks.memory.size):
                 if number == READ_CALL:
                     self.read(Access(hart, row, one, buffer, result, True, A1))
                 elif number == WRITE_CALL:
@@ -66,18 +76,22 @@ class Calls:
         if thing is not None and not thing.holds(access.address, access.size):
             inside = thing.low <= access.address < thing.high
             begin = thing.high if inside else access.address
-            self.checks.judge.outside(access._replace(address=begin, size=access.address + access.size - begin), thing)
+            self.checks.judge.outside(
+                access._replace(address=begin, size=access.address + access.size - begin), thing)
             return thing
         return None
 
     def read(self, access: Access) -> None:
         """A `read` call fills bytes."""
-        memory, end = self.checks.memory, access.address + access.size
+        memory = self.checks.memory
+        end = access.address + access.size
         states = memory.states[access.address:end]
-        bad = [at for at, state in enumerate(states) if state in (BESIDE, FREED, SAVED)] if not ZEROS.get(len(states)) == states else []
+        bad = ([at for at, state in enumerate(states) if state in (BESIDE, FREED, SAVED)]
+               if not ZEROS.get(len(states)) == states else [])
         if self.clip(access) is None and bad:
             first = bad[0]
-            self.checks.judge.forbidden(access._replace(address=access.address + first, size=access.size - first), states[first:])
+            self.checks.judge.forbidden(access._replace(address=access.address + first,
+                                                        size=access.size - first), states[first:])
         if not bad:
             memory.fill(access.address, end, GOOD)
         memory.forget_tags(access.address & ~3, end)
@@ -90,5 +104,6 @@ class Calls:
         states = self.checks.memory.states[access.address:access.address + access.size]
         for at, state in enumerate(states):
             if state in UNDEFINED:
-                self.checks.undefined.written(access.hart, access.one, access.row, access.address, access.size, at)
+                self.checks.undefined.written(access.hart, access.one, access.row,
+                                              access.address, access.size, at)
                 return

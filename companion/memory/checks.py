@@ -18,7 +18,8 @@ from .undefined import UndefinedBits
 
 
 class Checks:
-    """is_whole  whether all rows of the run are read: else what was taken, written and called before
+    """is_whole  whether all rows of the run are read: else what was taken, written and called
+    before
              isn't known
     copies   the first address of memcpy, if it isn't memmove as well
     renew    what forgets a hart's functions of instructions, once the code of one was changed"""
@@ -26,8 +27,10 @@ class Checks:
     def __init__(self, log: Log, program: Program, hooks: Mapping[int, Hook]) -> None:
         self.renew: list[Callable[[], None]] = []
         firsts = log.first_intervals()
-        self.program, self.facts = program, Facts(program)
-        self.memory, self.findings = Memory(log.memory), Findings()
+        self.program = program
+        self.facts = Facts(program)
+        self.memory = Memory(log.memory)
+        self.findings = Findings()
         is_begun = all(one.start == 0 for one in firsts.values())
         self.is_whole = is_begun and not log.dropped and not log.unread
         self.harts = [Hart(number, firsts[number].registers if number in firsts else ())
@@ -36,12 +39,14 @@ class Checks:
         self.stacks = Stacks(program, self.memory, self.heap, self.findings, self.harts)
         self.pointers = PointerWords(program, self.memory, self.findings, self.forget_code)
         self.judge = Judge(self.facts, self.memory, self.heap, self.findings)
-        self.undefined, self.parts = UndefinedBits(self.judge), Parts(self.facts)
+        self.undefined = UndefinedBits(self.judge)
+        self.parts = Parts(self.facts)
         named = program.function_named
         self.copies = named("memcpy") if named("memcpy") != named("memmove") else 0
 
     def operation(self, pc: int, word: int) -> Operation:
-        """The instruction of a row. If its function's code was changed, what was known of it is forgotten."""
+        """The instruction of a row. If its function's code was changed, what was known of it is
+        forgotten."""
         changed = len(self.facts.changed)
         found = self.facts.at(pc, word)
         if len(self.facts.changed) > changed:

@@ -1,7 +1,9 @@
-"""Memory that a function asks for on its stack while it runs: by alloca, or for an array of no constant length.
+"""Memory that a function asks for on its stack while it runs: by alloca, or for an array of no
+constant length.
 
-GCC adds 15 to the size, rounds it down to 16 and takes it from sp. For alloca, and for an array that has to be aligned, it adds 8 less
-than the alignment before, and rounds the pointer up. So the size is known to the byte."""
+GCC adds 15 to the size, rounds it down to 16 and takes it from sp. For alloca, and for an array
+that has to be aligned, it adds 8 less than the alignment before, and rounds the pointer up. So the
+size is known to the byte."""
 from __future__ import annotations
 
 from typing import Callable, Optional, Tuple
@@ -28,7 +30,8 @@ def writer(facts: Facts, before: int, register: int) -> Optional[Operation]:
 
 
 def aligned_from(facts: Facts, one: Optional[Operation], bits: int) -> Optional[Tuple[int, int]]:
-    """The place and the register whose value an instruction has without its lowest bits; None if it's another one."""
+    """The place and the register whose value an instruction has without its lowest bits; None if
+    it's another one."""
     if one is not None and one.name == "andi" and one.imm == -1 << bits:
         return one.pc, one.rs1
     if one is not None and one.name == "slli" and one.imm == bits:
@@ -39,15 +42,18 @@ def aligned_from(facts: Facts, one: Optional[Operation], bits: int) -> Optional[
 
 
 def is_aligned_down(facts: Facts, one: Operation) -> bool:
-    """Whether two shifts clear the lowest bits of a pointer: by the first one it is none, but nothing is done with that."""
+    """Whether two shifts clear the lowest bits of a pointer: by the first one it is none, but
+    nothing is done with that."""
     if one.name == "slli":
         return aligned_from(facts, one, one.imm) is not None
     following = facts.operations.get(one.pc + 4)
-    return bool(one.name == "srli" and following and following.name == "slli" and (following.rs1, following.imm) == (one.rd, one.imm))
+    return bool(one.name == "srli" and following and following.name == "slli"
+                and (following.rs1, following.imm) == (one.rd, one.imm))
 
 
 def sum_of_size(facts: Facts, one: Operation) -> Optional[Operation]:
-    """The sum of the size and what is added to it, for an instruction that takes the result from sp."""
+    """The sum of the size and what is added to it, for an instruction that takes the result from
+    sp."""
     rounded = aligned_from(facts, writer(facts, one.pc, one.rs2), 4)
     found = writer(facts, *rounded) if rounded else None
     return found if found is not None and is_sum(found) else None
@@ -55,7 +61,8 @@ def sum_of_size(facts: Facts, one: Operation) -> Optional[Operation]:
 
 def is_sum(one: Operation) -> bool:
     alignment = one.imm - ADDED + SPARED
-    return one.name == "addi" and (one.imm == ADDED or alignment >= ROUNDED and alignment & alignment - 1 == 0)
+    return one.name == "addi" and (one.imm == ADDED
+                                   or alignment >= ROUNDED and alignment & alignment - 1 == 0)
 
 
 def becomes_size(facts: Facts, one: Operation) -> bool:
@@ -68,8 +75,8 @@ def becomes_size(facts: Facts, one: Operation) -> bool:
 
 
 def size_asked(facts: Facts, one: Operation) -> Optional[Callable[[Hart, bytes], Asked]]:
-    """What gives the memory that a row asks for; None if an instruction asks for none. Of a size that nothing tells to the byte all
-    that sp was moved by counts."""
+    """What gives the memory that a row asks for; None if an instruction asks for none. Of a size
+    that nothing tells to the byte all that sp was moved by counts."""
     if not one.takes_memory:
         return None
     added = sum_of_size(facts, one)
@@ -77,7 +84,8 @@ def size_asked(facts: Facts, one: Operation) -> Optional[Callable[[Hart, bytes],
     def asked(hart: Hart, row: bytes) -> Asked:
         new = value_of(row)
         whole = hart.sp - new
-        if added is not None and hart.asking and count_of(row) - count_of(hart.asking) == (one.pc - added.pc) // 4:
+        if (added is not None and hart.asking
+                and count_of(row) - count_of(hart.asking) == (one.pc - added.pc) // 4):
             exact = value_of(hart.asking) - ADDED
             whole = exact if whole - ROUNDED < exact <= whole else whole
         return Asked(new, whole)
@@ -85,17 +93,20 @@ def size_asked(facts: Facts, one: Operation) -> Optional[Callable[[Hart, bytes],
 
 
 def pointer_to(facts: Facts, one: Operation) -> Tuple[int, int]:
-    """How far behind sp the memory begins to which an instruction makes a pointer, before that is rounded up; and to which multiple
-    it is."""
-    added, register = one.imm, one.rd
+    """How far behind sp the memory begins to which an instruction makes a pointer, before that is
+    rounded up; and to which multiple it is."""
+    added = one.imm
+    register = one.rd
     for pc in range(one.pc + 4, one.pc + 4 * REACH, 4):
         following = facts.operations.get(pc)
         if following is None or following.kind in (BRANCH, JUMP):
             break
-        bits = following.imm if following.name == "srli" else (-following.imm).bit_length() - 1 if following.name == "andi" else 0
+        bits = (following.imm if following.name == "srli"
+                else (-following.imm).bit_length() - 1 if following.name == "andi" else 0)
         if following.rs1 == register and following.name == "addi" and following.rd == register:
             added += following.imm
-        elif following.rs1 == register and bits > 1 and (following.name == "srli" or following.imm == -1 << bits):
+        elif following.rs1 == register and bits > 1 and (following.name == "srli"
+                                                         or following.imm == -1 << bits):
             return added - (1 << bits) + 1, 1 << bits
         elif following.rd == register:
             break

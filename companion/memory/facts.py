@@ -1,4 +1,5 @@
-"""What is known of an instruction's registers whatever the run: constants, places of the frame, pointers to structures.
+"""What is known of an instruction's registers whatever the run: constants, places of the frame,
+pointers to structures.
 
 Each function that runs is analysed once. A place's state is what all ways to it agree on."""
 from __future__ import annotations
@@ -8,11 +9,13 @@ from typing import Hashable, NamedTuple, Optional
 from ..recording.instruction import A0, ALU, JUMP, LOAD, SP, STORE
 from .operation import CALLEE_SAVED, CALLER_SAVED, GP, T0, Operation
 from .program import LONGEST_FUNCTION, Function, Program
-from .value import ABSOLUTE, ENTRY, FRAME, NUMBER, POINTER, UNKNOWN, WILD, State, Value, added, meet, mixed, moved, multiplied, subtracted
+from .value import (ABSOLUTE, ENTRY, FRAME, NUMBER, POINTER, UNKNOWN, WILD, State, Value, added,
+                    meet, mixed, moved, multiplied, subtracted)
 
 SAVE = "__riscv_save_"      # functions of -msave-restore, that make their caller's frame
 STEPS_EACH = 200            # steps for each instruction of a function, at most: some 10 are usual
-MOST_VISITS = 8             # of a place by new states; after them it only loses facts, so that it ends
+# Of a place by new states; after them it only loses facts, so that it ends
+MOST_VISITS = 8
 
 
 class Edge(NamedTuple):
@@ -22,16 +25,19 @@ class Edge(NamedTuple):
 
 class Facts:
     """operations   {address: instruction} of functions that were analysed
-    slots        {first address of a function: {offset from the frame's begin: the register that it saves there}}
+    slots        {first address of a function: {offset from the frame's begin: the register that it
+                 saves there}}
     changed      functions whose code isn't the file's, of which nothing is known"""
 
     def __init__(self, program: Program) -> None:
         self.program = program
         self.operations: dict[int, Operation] = {}
-        self.kept: dict[tuple[int, int], Operation] = {}       # {(address, word): instruction that ran}
+        # {(address, word): instruction that ran}
+        self.kept: dict[tuple[int, int], Operation] = {}
         self.slots: dict[int, dict[int, int]] = {}
         self.changed: set[int] = set()
-        self.pointer = next((each.address for each in program.elf.symbols if each.name == "__global_pointer$"), None)
+        self.pointer = next((each.address for each in program.elf.symbols
+                             if each.name == "__global_pointer$"), None)
 
     def at(self, pc: int, word: int) -> Operation:
         """The instruction of an address, which a row has with this word."""
@@ -63,7 +69,8 @@ class Facts:
 
     def result(self, one: Operation) -> Optional[Value]:
         """What is known of the register that an instruction without an access writes."""
-        base, other = one.base, one.other
+        base = one.base
+        other = one.other
         if one.name == "lui":
             return Value(ABSOLUTE, one.imm)
         if one.name == "addi":
@@ -73,14 +80,16 @@ class Facts:
         if one.name == "sub":
             return subtracted(base, other)
         if one.name == "slli":
-            return base._replace(offset=base.offset << one.imm, more=0) if base and base.to in (NUMBER, WILD) else None
+            return (base._replace(offset=base.offset << one.imm, more=0)
+                    if base and base.to in (NUMBER, WILD) else None)
         if one.name == "mul":
             return multiplied(base, other)
         return mixed(base, other) if one.name in ("sll", "or", "xor") else None
 
     def loaded(self, base: Value, offset: int) -> Optional[Value]:
         """What a loaded word is by the type of the place."""
-        program, kind = self.program, 0
+        program = self.program
+        kind = 0
         if base.to == POINTER:
             kind = program.types.pointee_at(base.more, offset)
         elif base.to == ABSOLUTE:
@@ -95,7 +104,9 @@ class Flow:
     """The states of one function."""
 
     def __init__(self, facts: Facts, function: Function) -> None:
-        self.facts, self.program, self.function = facts, facts.program, function
+        self.facts = facts
+        self.program = facts.program
+        self.function = function
         self.code = range(function.first, function.end, 4)
         for pc in self.code:
             facts.operations[pc] = Operation(pc, self.program.elf.word(pc) or 0)
@@ -112,7 +123,8 @@ class Flow:
 
     def run(self) -> None:
         self.begin(self.function.first, self.entry_state())
-        if self.jump is not None:               # a switch: it may lead to whatever nothing else leads to
+        # A switch: it may lead to whatever nothing else leads to
+        if self.jump is not None:
             for pc in self.code:
                 if not self.operations[pc].known:
                     self.begin(pc, dict(self.jump))
@@ -132,20 +144,21 @@ class Flow:
         return state
 
     def shared_words(self) -> Optional[list[tuple[int, int]]]:
-        """The parts of the frame that pointers may lead to: variables with a place. Without debug information all, as soon as the
-        address of a place is taken; else none."""
+        """The parts of the frame that pointers may lead to: variables with a place. Without debug
+        information all, as soon as the address of a place is taken; else none."""
         known = self.program.locals_of(self.function.first)
         if known is not None:
             return [(each.offset, each.end) for each in known]
-        taken = any(one.kind == ALU and one.name in ("addi", "add") and SP in (one.rs1, one.rs2) and one.rd != SP
-                    for one in map(self.operations.__getitem__, self.code))
+        taken = any(one.kind == ALU and one.name in ("addi", "add") and SP in (one.rs1, one.rs2)
+                    and one.rd != SP for one in map(self.operations.__getitem__, self.code))
         return None if taken else []
 
     def slot(self, base: Optional[Value], by: int) -> Optional[tuple[str, int]]:
         """The key of a word of the frame that only this function's own loads and stores reach."""
         if base and base.to == FRAME and not base.indexed and self.shared is not None:
             at = base.offset + by
-            if at < 0 and at % 4 == 0 and not any(low <= at + 3 and at < high for low, high in self.shared):
+            if at < 0 and at % 4 == 0 and not any(low <= at + 3 and at < high
+                                                  for low, high in self.shared):
                 return "s", at
         return None
 
@@ -168,7 +181,10 @@ class Flow:
             self.left -= 1
             for register, kind in self.variables.get(pc, ()):
                 state.setdefault(register, Value(POINTER, 0, False, kind))
-            one.known, one.base, one.other, one.stack = True, state.get(one.rs1), state.get(one.rs2), state.get(SP)
+            one.known = True
+            one.base = state.get(one.rs1)
+            one.other = state.get(one.rs2)
+            one.stack = state.get(SP)
             self.take(one, state)
             if one.leads and not one.rd:
                 self.lead(Edge(pc, one.leads), state)
@@ -200,8 +216,10 @@ class Flow:
             if key is not None:
                 put(state, key, one.other if one.width == 4 else None)
         elif one.rd:
-            # (behind memory that a function asks for on its stack the frame's places aren't told by sp)
-            known = None if one.takes_memory else self.facts.result(one) if one.kind == ALU else self.loaded(one, state)
+            # (behind memory that a function asks for on its stack the frame's places aren't told by
+            # sp)
+            known = (None if one.takes_memory else self.facts.result(one) if one.kind == ALU
+                     else self.loaded(one, state))
             put(state, one.rd, known)
 
     def loaded(self, one: Operation, state: State) -> Optional[Value]:
@@ -210,15 +228,18 @@ class Flow:
         key = self.slot(one.base, one.imm)
         if key is not None:
             return state.get(key)
-        return self.variable(one) if one.base.to == FRAME else self.facts.loaded(one.base, one.base.offset + one.imm)
+        return (self.variable(one) if one.base.to == FRAME
+                else self.facts.loaded(one.base, one.base.offset + one.imm))
 
     def variable(self, one: Operation) -> Optional[Value]:
         """What is loaded from a variable of the frame, if that is a pointer to a structure."""
         if one.base is None or one.base.indexed:
             return None
         at = one.base.offset + one.imm
-        found = [each for each in self.program.locals_of(self.function.first) or () if each.offset == at and each.low <= one.pc < each.high]
-        return Value(POINTER, 0, False, found[0].pointee) if len(found) == 1 and found[0].pointee else None
+        found = [each for each in self.program.locals_of(self.function.first) or ()
+                 if each.offset == at and each.low <= one.pc < each.high]
+        return (Value(POINTER, 0, False, found[0].pointee) if len(found) == 1 and found[0].pointee
+                else None)
 
     def call(self, one: Operation, state: State) -> None:
         """What a call leaves. One that saves registers moves sp, and leaves what its caller had."""
@@ -241,7 +262,8 @@ class Flow:
         saved: dict[int, list[Operation]] = {}
         restored: set[tuple[int, int]] = set()
         for one in map(self.operations.__getitem__, self.code):
-            if one.kind in (LOAD, STORE) and one.width == 4 and one.base and one.base.to == FRAME and not one.base.indexed:
+            if (one.kind in (LOAD, STORE) and one.width == 4 and one.base and one.base.to == FRAME
+                    and not one.base.indexed):
                 if one.kind == STORE and one.other == Value(ENTRY, one.rs2):
                     saved.setdefault(one.base.offset + one.imm, []).append(one)
                 elif one.kind == LOAD and one.rd in CALLEE_SAVED:

@@ -15,26 +15,37 @@ from .findings import NO_BLOCK, TWICE, Finding, Findings
 from .operation import FULL
 from .program import Program
 from .state import (
-    BESIDE, BLOCK, FREED, FRAME, GLOBAL, GOOD, NULL, UNDEFINED, UNWRITTEN, Awaited, Event, Hart, Memory, Thing)
+    BESIDE, BLOCK, FREED, FRAME, GLOBAL, GOOD, NULL, UNDEFINED, UNWRITTEN, Awaited, Event,
+    Hart, Memory, Thing)
 
-TAKES, CLEARS, RESIZES, GIVES_BACK, STORES = "takes", "takes cleared", "resizes", "gives back", "stores"
-# Of C's functions and of newlib's forms with a structure before: what they do, and which argument is the size (or the
-# first of two factors), or the block.
+TAKES = "takes"
+CLEARS = "takes cleared"
+RESIZES = "resizes"
+GIVES_BACK = "gives back"
+STORES = "stores"
+# Of C's functions and of newlib's forms with a structure before: what they do, and which argument
+# is the size (or the first of two factors), or the block.
 ALLOCATORS = {
-    "malloc": (TAKES, 0), "calloc": (CLEARS, 0), "realloc": (RESIZES, 0), "reallocf": (RESIZES, 0), "reallocarray": (RESIZES, 0),
-    "free": (GIVES_BACK, 0), "cfree": (GIVES_BACK, 0), "memalign": (TAKES, 1), "aligned_alloc": (TAKES, 1), "valloc": (TAKES, 0),
-    "pvalloc": (TAKES, 0), "posix_memalign": (STORES, 2), "_malloc_r": (TAKES, 1), "_calloc_r": (CLEARS, 1), "_realloc_r": (RESIZES, 1),
+    "malloc": (TAKES, 0), "calloc": (CLEARS, 0), "realloc": (RESIZES, 0), "reallocf": (RESIZES, 0),
+    "reallocarray": (RESIZES, 0),
+    "free": (GIVES_BACK, 0), "cfree": (GIVES_BACK, 0), "memalign": (TAKES, 1),
+    "aligned_alloc": (TAKES, 1), "valloc": (TAKES, 0),
+    "pvalloc": (TAKES, 0), "posix_memalign": (STORES, 2), "_malloc_r": (TAKES, 1),
+    "_calloc_r": (CLEARS, 1), "_realloc_r": (RESIZES, 1),
     "_free_r": (GIVES_BACK, 1), "_memalign_r": (TAKES, 2)}
-BEFORE, BEHIND = 4, 16      # bytes beside a block that are the allocator's own, if they are no other block's
+# Bytes beside a block that are the allocator's own, if they are no other block's
+BEFORE = 4
+BEHIND = 16
 MOST_GONE = 4096            # blocks that were given back and are remembered by address
-MOST_OVER = 8               # blocks that were given back, of other sizes, in which the same byte can have been
+# Blocks that were given back, of other sizes, in which the same byte can have been
+MOST_OVER = 8
 MOST_ARGUMENTS = 8
 OPTION = re.compile(r"([\w.$]+)(?::(=?)([0-9]+))?")
 
 
 class Hook(NamedTuple):
-    """A function that takes or gives back: what it does, the number of the argument, and the size if that is always the same.
-    `is_standard`: it is C's own."""
+    """A function that takes or gives back: what it does, the number of the argument, and the size
+    if that is always the same. `is_standard`: it is C's own."""
     name: str
     does: str
     argument: int
@@ -61,7 +72,8 @@ def named_hook(program: Program, option: str, word: str, does: str) -> tuple[int
     form = "FN, FN:N or FN:=BYTES" if option == "--alloc" else "FN or FN:N"
     if not told or told[2] and option == "--free":
         raise CompanionError(f"{option}: {clean(word)!r} has to be {form}", REFUSED)
-    at, times = program.function_named(told[1]), program.inlined[told[1]]
+    at = program.function_named(told[1])
+    times = program.inlined[told[1]]
     if not at:
         inlined = f": it was inlined in {counted(times, 'place')}, where nothing tells what it gave"
         said = f"{option}: the program has no function {clean(told[1])}"
@@ -79,7 +91,8 @@ def size_of_result(program: Program, at: int) -> Optional[int]:
     if entry is None or any(each.tag == PARAMETER for each in entry.below):
         return None
     result = program.types.entry(program.dwarf.type_of(entry))
-    size = program.types.size(program.dwarf.type_of(result)) if result is not None and result.tag == POINTER else 0
+    size = (program.types.size(program.dwarf.type_of(result))
+            if result is not None and result.tag == POINTER else 0)
     return size or None
 
 
@@ -88,10 +101,13 @@ class Heap:
     gone    {address: the last block there that was given back}
     failed  calls that gave 0, with the size, and how much was live"""
 
-    def __init__(self, program: Program, memory: Memory, findings: Findings, hooks: Mapping[int, Hook],
-                 is_whole: bool) -> None:
-        self.program, self.memory, self.findings = program, memory, findings
-        self.hooks, self.is_whole = hooks, is_whole
+    def __init__(self, program: Program, memory: Memory, findings: Findings,
+                 hooks: Mapping[int, Hook], is_whole: bool) -> None:
+        self.program = program
+        self.memory = memory
+        self.findings = findings
+        self.hooks = hooks
+        self.is_whole = is_whole
         self.live: Dict[int, Thing] = {}
         self.begins: List[int] = []
         self.gone: Dict[int, Thing] = {}
@@ -111,7 +127,8 @@ class Heap:
         if before and address < before.end + BEHIND:
             return before
         at_gone = bisect.bisect_right(self.gone_begins, address)
-        was = next((one for one in (self.gone[begin] for begin in self.gone_begins[max(0, at_gone - MOST_OVER):at_gone][::-1])
+        was = next((one for one in (self.gone[begin] for begin
+                                    in self.gone_begins[max(0, at_gone - MOST_OVER):at_gone][::-1])
                     if address < one.end), None)
         if was is None and at + 1 < len(self.begins) and self.begins[at + 1] - address <= BEFORE:
             return self.live[self.begins[at + 1]]
@@ -128,7 +145,10 @@ class Heap:
         when = Event(hart.number, count_of(row), pcs)
         arguments = [hart.value(A0 + at) for at in range(MOST_ARGUMENTS)] + [None] * 3
         first, second, third = arguments[hook.argument:hook.argument + 3]
-        old, size, slot, does = None, first, b"", hook.does
+        old = None
+        size = first
+        slot = b""
+        does = hook.does
         if hook.does in (GIVES_BACK, RESIZES) and first:
             old = self.given(hart, first, hook, when)
         if hook.does == RESIZES:
@@ -141,31 +161,37 @@ class Heap:
         hart.awaited = Awaited(does, hook.name, b"%08x" % back, hook.size or size, old, when, slot)
 
     def given(self, hart: Hart, address: int, hook: Hook, when: Event) -> Optional[Thing]:
-        """The live block that is given back or resized, or None: then something is wrong, or it isn't known."""
+        """The live block that is given back or resized, or None: then something is wrong, or it
+        isn't known."""
         block = self.live.get(address)
         if block is not None:
             if hook.does == GIVES_BACK:
                 self.release(block, when)
             return block
-        tag, was = hart.tags[A0 + hook.argument], self.gone.get(address)
+        tag = hart.tags[A0 + hook.argument]
+        was = self.gone.get(address)
         if tag is not None and tag.kind == BLOCK and tag.gone and tag.begin == address:
             was = tag
-        inside, verb = self.holding(address), "given to realloc" if hook.does == RESIZES else "given back"
+        inside = self.holding(address)
+        verb = "given to realloc" if hook.does == RESIZES else "given back"
         if was is not None:
-            self.tell(TWICE, f"{address:08x} is {verb} again: a block of {was.size} bytes", when, was)
+            self.tell(TWICE, f"{address:08x} is {verb} again: a block of {was.size} bytes",
+                      when, was)
         elif inside is not None:
-            self.tell(NO_BLOCK, f"{address:08x} is {verb}: it is {address - inside.begin} bytes into a block of {inside.size} bytes",
-                      when, inside)
+            self.tell(NO_BLOCK, f"{address:08x} is {verb}: it is {address - inside.begin} bytes "
+                      f"into a block of {inside.size} bytes", when, inside)
         elif tag is not None and tag.kind in (GLOBAL, FRAME):
             self.tell(NO_BLOCK, f"{address:08x} is {verb}: it is in {tag.name}", when, tag)
         elif address >= self.memory.size:
-            self.tell(NO_BLOCK, f"{address:08x} is {verb}: memory ends at {self.memory.size:08x}", when, None)
+            self.tell(NO_BLOCK,
+                      f"{address:08x} is {verb}: memory ends at {self.memory.size:08x}", when, None)
         else:
             self.findings.unknown["blocks given back that no row of the log took"] += 1
         return None
 
     def tell(self, kind: str, text: str, when: Event, thing: Optional[Thing]) -> None:
-        self.findings.add((kind, when.pcs[:1], thing.taken if thing else None), Finding(kind, text, when, thing))
+        self.findings.add((kind, when.pcs[:1], thing.taken if thing else None),
+                          Finding(kind, text, when, thing))
 
     def returned(self, hart: Hart, row: Optional[bytes], stored: Optional[bytes]) -> None:
         """The function has returned: `row` wrote a0, and `stored` what posix_memalign gives."""
@@ -204,7 +230,8 @@ class Heap:
         return found
 
     def take(self, begin: int, awaited: Awaited) -> Optional[Thing]:
-        """A block is there now. Of one whose size isn't known nothing is said but that it is gone once it is given back."""
+        """A block is there now. Of one whose size isn't known nothing is said but that it is gone
+        once it is given back."""
         if begin >= self.memory.size:
             return None
         if awaited.size is None:
@@ -224,16 +251,18 @@ class Heap:
         return block
 
     def beside(self, begin: int, end: int) -> None:
-        """What is beside a block is no one's, if all rows are known and nothing else is known of it. It has to be in the object that
-        the whole heap is in, or in none."""
+        """What is beside a block is no one's, if all rows are known and nothing else is known of
+        it. It has to be in the object that the whole heap is in, or in none."""
         states = self.memory.states
         arena = self.program.object_at(end if end - begin == BEFORE else begin - 1)
         for at in range(begin, min(end, self.memory.size)) if self.is_whole else ():
-            if states[at] == GOOD and self.holding(at) is None and self.program.object_at(at) == arena:
+            if (states[at] == GOOD and self.holding(at) is None
+                    and self.program.object_at(at) == arena):
                 states[at] = BESIDE
 
     def release(self, block: Thing, when: Event) -> None:
-        begin, end = block.begin, block.end
+        begin = block.begin
+        end = block.end
         block.end_life(when)
         self.live.pop(begin, None)
         at = bisect.bisect_left(self.begins, begin)
@@ -255,7 +284,8 @@ class Heap:
         """A block stays at its place, and is longer or shorter now."""
         if awaited.size is None:
             return
-        was, end = block.end, min(block.begin + awaited.size, self.memory.size)
+        was = block.end
+        end = min(block.begin + awaited.size, self.memory.size)
         block.high = block.end = end
         if end > was:
             self.memory.fill(was, end, UNWRITTEN)
@@ -268,11 +298,13 @@ class Heap:
         """What a block held is in another one now."""
         memory = self.memory
         size = min(old.size, awaited.size or 0, memory.size - begin)
-        states = bytes(UNWRITTEN if state in UNDEFINED else GOOD for state in memory.states[old.begin:old.begin + size])
+        states = bytes(UNWRITTEN if state in UNDEFINED else GOOD
+                       for state in memory.states[old.begin:old.begin + size])
         memory.states[begin:begin + size] = states
         if begin % 4 == 0 and old.begin % 4 == 0:
             words = size // 4
-            memory.tags[begin >> 2:(begin >> 2) + words] = memory.tags[old.begin >> 2:(old.begin >> 2) + words]
+            memory.tags[begin >> 2:(begin >> 2) + words] = (
+                memory.tags[old.begin >> 2:(old.begin >> 2) + words])
         self.release(old, awaited.when)
 
 

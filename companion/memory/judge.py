@@ -1,4 +1,5 @@
-"""What is wrong with an access that isn't plainly good: by a pointer outside of what it was made for, or to bytes that are no one's."""
+"""What is wrong with an access that isn't plainly good: by a pointer outside of what it was made
+for, or to bytes that are no one's."""
 from __future__ import annotations
 
 import re
@@ -8,20 +9,26 @@ from ..recording.cut import pc_of, word_of
 from ..recording.instruction import ALU, AMO, BRANCH, JUMP, LOAD, NAMES, SP, STORE
 from .facts import Facts
 from .findings import (
-    AFTER_RETURN, AFTER_SCOPE, FREED as FREED_KIND, GLOBAL as GLOBAL_KIND, HEAP, MEMBER as MEMBER_KIND, NULL as NULL_KIND, OVERLAP, REGISTER, STACK,
+    AFTER_RETURN, AFTER_SCOPE, FREED as FREED_KIND, GLOBAL as GLOBAL_KIND, HEAP,
+    MEMBER as MEMBER_KIND, NULL as NULL_KIND, OVERLAP, REGISTER, STACK,
     Finding, Findings)
 from .heap import Heap
 from .operation import FULL, Operation
 from .state import (
-    BESIDE, BLOCK, ENDED, FORBIDDEN, FRAME, FREED, GLOBAL, GOOD, MEMBER, NULL, SAVED, UNDEFINED, UNWRITTEN, Hart, Memory,
+    BESIDE, BLOCK, ENDED, FORBIDDEN, FRAME, FREED, GLOBAL, GOOD, MEMBER, NULL, SAVED,
+    UNDEFINED, UNWRITTEN, Hart, Memory,
     Thing, value_of)
 from .value import NUMBER, as_term
 
 # Functions of a library that read whole words, whose other bytes they don't use.
 BY_WORDS = re.compile(r"_*(str|mem|rawmemchr|stpcpy|stpncpy|index|bcopy|bzero|bcmp)\w*")
-ROWS_BACK, ROWS_OF_LOOP = 3000, 20000   # in which a pointer's origin, and the end of a loop before, are looked for
-ANCHOR = 16                 # bytes: a place so little before an object may be meant as its begin, less an index
-FAR = 64                    # bytes: an access farther from an object, by an index alone, is another object's
+# In which a pointer's origin, and the end of a loop before, are looked for
+ROWS_BACK = 3000
+ROWS_OF_LOOP = 20000
+# bytes: a place so little before an object may be meant as its begin, less an index
+ANCHOR = 16
+# bytes: an access farther from an object, by an index alone, is another object's
+FAR = 64
 MOST_SEARCHES = 2000        # for origins: each takes up to 10 ms
 NEXT = 8                    # bytes between objects that follow each other
 
@@ -51,13 +58,15 @@ class Recent:
         self.text = self.before = b""
 
     def add(self, text: bytes) -> None:
-        self.before, self.text = self.text, text
+        self.before = self.text
+        self.text = text
 
     def back(self, hart: Hart, row: bytes, most: int) -> Iterator[bytes]:
         """So many rows of a hart before a row, the last one first."""
         mine = b"%d " % hart.number
         texts = self.text[:max(0, self.text.find(b"\n" + row))], self.before
-        found = (each for text in texts for each in reversed(text.split(b"\n")) if each.startswith(mine))
+        found = (each for text in texts
+                 for each in reversed(text.split(b"\n")) if each.startswith(mine))
         for _, each in zip(range(most), found):
             yield each
 
@@ -65,10 +74,15 @@ class Recent:
 class Judge:
     """made     {address of an instruction that makes a pointer to a part: True}
     limited  {address of an access whose thing an index misses, whatever its register is for}
-    anchors  accesses that reach one object by a constant from another one's pointer, as compilers do: nothing is said of them"""
+    anchors  accesses that reach one object by a constant from another one's pointer, as compilers
+             do: nothing is said of them"""
 
     def __init__(self, facts: Facts, memory: Memory, heap: Heap, findings: Findings) -> None:
-        self.facts, self.program, self.memory, self.heap, self.findings = facts, facts.program, memory, heap, findings
+        self.facts = facts
+        self.program = facts.program
+        self.memory = memory
+        self.heap = heap
+        self.findings = findings
         self.recent = Recent()
         self.made: set[int] = set()
         self.limited: set[int] = set()
@@ -79,7 +93,8 @@ class Judge:
 
     def load(self, access: Access, thing: Optional[Thing]) -> int:
         """Tells what is wrong. Gives the bits that are loaded and that nobody wrote."""
-        address, size = access.address, access.size
+        address = access.address
+        size = access.size
         if thing is not None and access.misses(thing) and self.outside(access, thing):
             return 0
         states = self.memory.states[address:address + size]
@@ -93,7 +108,9 @@ class Judge:
 
     def store(self, access: Access, thing: Optional[Thing]) -> None:
         """Tells what is wrong. The bytes are written then, if they are someone's."""
-        address, size, memory = access.address, access.size, self.memory
+        address = access.address
+        size = access.size
+        memory = self.memory
         states = memory.states[address:address + size]
         if thing is not None and access.misses(thing) and self.outside(access, thing):
             if UNDEFINED.issuperset(states):
@@ -107,7 +124,8 @@ class Judge:
         memory.fill(address, address + size, GOOD)
 
     def is_allocators(self, pc: int) -> bool:
-        """Whether a function is of a file that has an allocator's function: its headers are beside blocks."""
+        """Whether a function is of a file that has an allocator's function: its headers are beside
+        blocks."""
         first = self.program.function_at(pc).first
         entry = self.program.entries.get(first)
         if entry is None:
@@ -116,16 +134,19 @@ class Judge:
 
     def is_by_words(self, access: Access, has_good: bool) -> bool:
         return (has_good and access.size == 4 and access.address % 4 == 0
-                and bool(BY_WORDS.fullmatch(self.program.function_of(access.one.pc))) and self.program.is_library(access.one.pc))
+                and bool(BY_WORDS.fullmatch(self.program.function_of(access.one.pc)))
+                and self.program.is_library(access.one.pc))
 
     # By a pointer that leads outside of what it was made for.
 
     def outside(self, access: Access, thing: Thing) -> bool:
         """Whether it is wrong, or nothing can be said."""
-        if thing.kind == BLOCK and access.address < thing.begin and self.is_allocators(access.one.pc):
+        if (thing.kind == BLOCK and access.address < thing.begin
+                and self.is_allocators(access.one.pc)):
             self.findings.unknown[HEADERS] += 1
             return True
-        if not thing.has_ended(access.hart, access.one.pc) and thing.kind != NULL and not access.is_store:
+        if (not thing.has_ended(access.hart, access.one.pc)
+                and thing.kind != NULL and not access.is_store):
             if self.is_by_words(access, thing.begin - 3 <= access.address < thing.end):
                 self.findings.unknown["words past an end that a library's function read"] += 1
                 return False
@@ -147,14 +168,16 @@ class Judge:
             return AFTER_RETURN, f"{thing.name} has ended"
         if thing.has_ended(access.hart, access.one.pc):
             return AFTER_SCOPE, f"{thing.name}, whose block has ended"
-        return STACK, f"{distance(access, thing.begin, thing.end)} {thing.name} ({thing.size} bytes)"
+        return (STACK,
+                f"{distance(access, thing.begin, thing.end)} {thing.name} ({thing.size} bytes)")
 
     def tell(self, access: Access, kind: str, text: str, thing: Optional[Thing]) -> None:
         key = self.key(kind, access.one.pc, thing)
         if key in self.anchors:
             self.findings.unknown[ANCHORED] += 1
             return
-        origin, does = 0, ""
+        origin = 0
+        does = ""
         if key not in self.findings.kept:
             self.searches += 1
             made = self.origin(access, thing) if self.searches < MOST_SEARCHES else None
@@ -163,22 +186,26 @@ class Judge:
                 self.findings.unknown[ANCHORED] += 1
                 return
             origin, does = made
-        self.findings.add(key, Finding(kind, text, access.hart.event(access.row, access.one.pc), thing, origin, does))
+        self.findings.add(key, Finding(kind, text, access.hart.event(access.row, access.one.pc),
+                                       thing, origin, does))
 
     def key(self, kind: str, pc: int, thing: Optional[Thing]) -> Hashable:
         """Accesses of one function to one thing are one finding."""
         if thing is None:
             return kind, pc
-        return (kind, self.program.function_at(pc).first, thing.taken.pcs[:1] if thing.taken else thing.name,
-                thing.gone.pcs[:1] if thing.gone else ())
+        return (kind, self.program.function_at(pc).first, thing.taken.pcs[:1] if thing.taken
+                else thing.name, thing.gone.pcs[:1] if thing.gone else ())
 
     def origin(self, access: Access, thing: Optional[Thing]) -> Optional[tuple[int, str]]:
-        """The place that loaded or made the pointer, and what it did, or (0, ""). None if another object can be meant, that the
-        compiler reaches from this one's pointer."""
-        hart, one = access.hart, access.one
-        is_static = thing is not None and thing.kind in (GLOBAL, FRAME, MEMBER) and not thing.has_ended(hart, one.pc)
+        """The place that loaded or made the pointer, and what it did, or (0, ""). None if another
+        object can be meant, that the compiler reaches from this one's pointer."""
+        hart = access.hart
+        one = access.one
+        is_static = (thing is not None and thing.kind in (GLOBAL, FRAME, MEMBER)
+                     and not thing.has_ended(hart, one.pc))
         if thing is not None and thing.owner not in (0, self.program.function_at(one.pc).first):
-            is_static = False                   # another function's variable: a compiler knows of none beside it
+            # Another function's variable: a compiler knows of none beside it
+            is_static = False
         if not is_static or thing is None:
             found = self.source(access, FULL)
             return found if found and not self.program.is_library(found[0]) else (0, "")
@@ -189,12 +216,14 @@ class Judge:
             found = 0, ""
         by_tag = hart.tags[access.base] is thing and one.kind in (LOAD, STORE)
         far = access.address and not thing.begin - FAR <= access.address < thing.end + FAR
-        if found is None or by_tag and (not -ANCHOR <= one.imm < thing.size or not found[0] and far):
+        if found is None or by_tag and (not -ANCHOR <= one.imm < thing.size
+                                        or not found[0] and far):
             return None
         return found
 
     def source(self, access: Access, size: int) -> Optional[tuple[int, str]]:
-        """The place that loaded or made a pointer, by the last rows. None if a constant was added that leads out of so many bytes."""
+        """The place that loaded or made a pointer, by the last rows. None if a constant was added
+        that leads out of so many bytes."""
         register = access.base
         for row in self.recent.back(access.hart, access.row, ROWS_BACK):
             if b"| %s=" % NAMES[register].encode() not in row:
@@ -218,14 +247,18 @@ class Judge:
         return 0, ""
 
     def is_loops_end(self, access: Access, thing: Thing) -> bool:
-        """Whether a loop over one object ended with a pointer to its end, which the compiler takes for the next one's begin."""
+        """Whether a loop over one object ended with a pointer to its end, which the compiler takes
+        for the next one's begin."""
         after = self.program.object_at(thing.end) or self.program.object_at(thing.end + NEXT - 1)
         if after is None or after.address - thing.end > NEXT:
             return False
-        registers, is_equal, later = {access.base}, False, access.one.pc
+        registers = {access.base}
+        is_equal = False
+        later = access.one.pc
         for row in self.recent.back(access.hart, access.row, ROWS_OF_LOOP):
             one = self.facts.at(pc_of(row), word_of(row))
-            if one.kind == BRANCH and {one.rs1, one.rs2} & registers and one.name == ("beq" if later == one.leads else "bne"):
+            if (one.kind == BRANCH and {one.rs1, one.rs2} & registers
+                    and one.name == ("beq" if later == one.leads else "bne")):
                 is_equal = True                 # to what it was compared with: is that the end?
             later = one.pc
             if one.kind != ALU or one.rd not in registers:
@@ -247,7 +280,8 @@ class Judge:
     def tell_overlap(self, hart: Hart, row: bytes, size: int, common: int) -> None:
         when = hart.event(row, pc_of(row))
         self.findings.add((OVERLAP, when.pcs[1:2]), Finding(
-            OVERLAP, f"memcpy of {size} bytes between places that have {common} bytes in common", when))
+            OVERLAP,
+            f"memcpy of {size} bytes between places that have {common} bytes in common", when))
 
     # To bytes that are no one's, whatever the pointer was made for.
 
@@ -256,9 +290,11 @@ class Judge:
             register, at, _ = self.memory.saved.get(access.address & ~3, (0, access.one.pc, b""))
             if access.is_store:
                 what = "return address" if register == 1 else f"saved {NAMES[register]}"
-                self.tell(access, REGISTER, f"{access.verb}, over the {what} of {self.program.function_of(at)}", None)
+                self.tell(access, REGISTER,
+                          f"{access.verb}, over the {what} of {self.program.function_of(at)}", None)
         elif ENDED in states:
-            self.tell(access, AFTER_RETURN, f"{access.verb} at {access.address:08x}, in a frame that has ended", None)
+            self.tell(access, AFTER_RETURN,
+                      f"{access.verb} at {access.address:08x}, in a frame that has ended", None)
         elif self.is_allocators(access.one.pc):
             self.findings.unknown[HEADERS] += 1
         else:

@@ -8,12 +8,14 @@ from ..recording.instruction import (
     ALU, AMO, BRANCH, OP_AUIPC, OP_IMMEDIATE, OP_LUI, SP, STORE, Instruction)
 from .value import Value
 
-GP, T0 = 3, 5
+GP = 3
+T0 = 5
 CALLER_SAVED = (1, 5, 6, 7, 10, 11, 12, 13, 14, 15, 16, 17, 28, 29, 30, 31)
-CALLEE_SAVED = (1, 8, 9, 18, 19, 20, 21, 22, 23, 24, 25, 26, 27)       # and the address to return to
+# And the address to return to
+CALLEE_SAVED = (1, 8, 9, 18, 19, 20, 21, 22, 23, 24, 25, 26, 27)
 BRANCHES = "beq", "bne", "", "", "blt", "bge", "bltu", "bgeu"
 IMMEDIATES = "addi", "slli", "slti", "sltiu", "xori", "srli", "ori", "andi"
-REGISTERS = {0: ("add", "sll", "slt", "sltu", "xor", "srl", "or", "and"),      # by a word's upper bits
+REGISTERS = {0: ("add", "sll", "slt", "sltu", "xor", "srl", "or", "and"),  # by a word's upper bits
              1: ("mul", "mulh", "mulhsu", "mulhu", "div", "divu", "rem", "remu"),
              32: ("sub", "", "", "", "", "sra", "", "")}
 ATOMICS = {0: "amoadd", 1: "amoswap", 2: "lr", 3: "sc"}
@@ -29,7 +31,8 @@ class Operation(Instruction):
 
     def __init__(self, pc: int, word: int) -> None:
         super().__init__(0, b"%08x %08x ?" % (pc, word))
-        low, part = word & 127, word >> 12 & 7
+        low = word & 127
+        part = word >> 12 & 7
         self.known = self.saves = False
         self.base: Optional[Value] = None
         self.other: Optional[Value] = None

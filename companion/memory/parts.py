@@ -1,4 +1,5 @@
-"""Which part of the program's data an instruction's pointer is for: what is known of it whatever the run, and by the types."""
+"""Which part of the program's data an instruction's pointer is for: what is known of it whatever
+the run, and by the types."""
 from __future__ import annotations
 
 import re
@@ -14,9 +15,11 @@ from .value import FRAME as IN_FRAME
 
 STARTS = re.compile(r"_*(c?start|crt|reset|cstart)")     # what starts a program goes over sections
 BEFORE = 16                 # bytes: so close before an object another may end whose end is meant
-NEAR = 4                    # bytes: a place so little before a variable may be meant as its begin, less an index
+# bytes: a place so little before a variable may be meant as its begin, less an index
+NEAR = 4
 FAR = 65536                 # bytes: an access farther than this is by an index that wasn't one
-Limit = Callable[[Hart, int], Optional[Thing]]  # of an access's address: the thing that it misses, or None
+# Of an access's address: the thing that it misses, or None
+Limit = Callable[[Hart, int], Optional[Thing]]
 # The same of an address, and of where a structure begins, or one of several behind each other.
 Missed = Callable[[int, int], Optional[Thing]]
 
@@ -29,8 +32,9 @@ class Inner(NamedTuple):
 
 
 class Place(NamedTuple):
-    """A place of the frame that a pointer is made to: from `low` (None: sp) to `high` from there it may lead. The variable begins
-    at `begin`, as one may end there whose end is meant. `scope`: the addresses of its block, if its function continues behind it."""
+    """A place of the frame that a pointer is made to: from `low` (None: sp) to `high` from there it
+    may lead. The variable begins at `begin`, as one may end there whose end is meant. `scope`: the
+    addresses of its block, if its function continues behind it."""
     low: Optional[int]
     high: int
     name: str
@@ -46,8 +50,9 @@ class Parts:
     # Global objects.
 
     def global_thing(self, address: int) -> Optional[Thing]:
-        """What a constant leads to, if an object or an array member begins there: others can be those of objects behind them, less
-        an offset. What ends there is taken in, since it may be its end."""
+        """What a constant leads to, if an object or an array member begins there: others can be
+        those of objects behind them, less an offset. What ends there is taken in, since it may be
+        its end."""
         if address not in self.globals:
             self.globals[address] = self.new_global(address)
         return self.globals[address]
@@ -57,18 +62,25 @@ class Parts:
         if there is None:
             return None
         before = self.program.object_before(there.address)
-        low = before.address if before and 0 <= there.address - before.end < BEFORE else there.address
+        low = (before.address if before and 0 <= there.address - before.end < BEFORE
+               else there.address)
         if address == there.address:
             thing = Thing(low, there.end, GLOBAL, there.name)
-            thing.begin, thing.end = there.address, there.end
+            thing.begin = there.address
+            thing.end = there.end
             return thing
-        kind, offset = self.program.objects.get(there.address), address - there.address
+        kind = self.program.objects.get(there.address)
+        offset = address - there.address
         part = self.types.array_at(kind, offset)
         if part is None or part.begin != offset:
             return None
-        first = min((each.begin for each in self.types.arrays(kind) if each.end == offset), default=offset)
-        thing = Thing(there.address + first if first else low, there.address + part.end, GLOBAL, there.name + part.path)
-        thing.begin, thing.end, thing.is_part = address, there.address + part.end, True
+        first = min((each.begin for each in self.types.arrays(kind) if each.end == offset),
+                    default=offset)
+        thing = Thing(there.address + first if first else low, there.address + part.end,
+                      GLOBAL, there.name + part.path)
+        thing.begin = address
+        thing.end = there.address + part.end
+        thing.is_part = True
         return thing
 
     def made_global(self, one: Operation, value: Value) -> Optional[Thing]:
@@ -80,17 +92,24 @@ class Parts:
         """The limit of an access by a constant and an index."""
         thing = self.global_thing(base.offset + one.imm)
         kind = self.program.objects.get(thing.begin) if thing else None
-        if thing is None or kind is not None and not thing.is_part and not self.types.is_array(kind):
-            return None                         # nothing that an index is added to: the constant is another object's
-        missed, low, high, size = thing, thing.low, thing.high, one.width
+        if (thing is None
+                or kind is not None and not thing.is_part and not self.types.is_array(kind)):
+            # Nothing that an index is added to: the constant is another object's
+            return None
+        missed = thing
+        low = thing.low
+        high = thing.high
+        size = one.width
         if base.more and one.imm:
             other = self.global_thing(base.offset)
             if other is not None and (other.begin > thing.begin or other.end <= thing.begin):
-                low, high = min(low, other.low), max(high, other.high)
+                low = min(low, other.low)
+                high = max(high, other.high)
 
         def limit(_: Hart, address: int) -> Optional[Thing]:
             is_in = low <= address and address + size <= high
-            if is_in or not -FAR < address - missed.begin < FAR + high - low or missed.holds(address, size):
+            if (is_in or not -FAR < address - missed.begin < FAR + high - low
+                    or missed.holds(address, size)):
                 return None
             return missed
         return limit
@@ -98,7 +117,8 @@ class Parts:
     # Members of structures.
 
     def elements(self, address: int) -> Optional[Elements]:
-        """The global array of structures that an address is in: an object, or a member of one that is in no other array."""
+        """The global array of structures that an address is in: an object, or a member of one that
+        is in no other array."""
         there = self.program.object_at(address)
         if there is None:
             return None
@@ -106,8 +126,10 @@ class Parts:
         return self.types.structures_at(kind, there.address, address, there.name)
 
     def with_before(self, kind: int, part: Part) -> tuple[int, int]:
-        """An array member's range, with the one that ends at its begin: a pointer may be that one's end."""
-        return min((each.begin for each in self.types.arrays(kind) if each.end == part.begin), default=part.begin), part.end
+        """An array member's range, with the one that ends at its begin: a pointer may be that one's
+        end."""
+        return min((each.begin for each in self.types.arrays(kind) if each.end == part.begin),
+                   default=part.begin), part.end
 
     def inner(self, one: Operation, value: Value) -> Optional[Inner]:
         """The array member to whose begin an instruction makes a pointer."""
@@ -115,12 +137,16 @@ class Parts:
         if value.to == POINTER and not value.indexed:
             if one.name != "addi" or not one.imm or not base or base.to != POINTER or base.indexed:
                 return None
-            kind, offset, name = value.more, value.offset, self.types.name(value.more)
+            kind = value.more
+            offset = value.offset
+            name = self.types.name(value.more)
         elif value.to == ABSOLUTE and value.indexed and value.more and base:
             of = self.elements(value.offset)
             if of is None:
                 return None
-            kind, offset, name = of.type, (value.offset - of.begin) % of.size, of.name
+            kind = of.type
+            offset = (value.offset - of.begin) % of.size
+            name = of.name
         else:
             return None
         part = self.types.array_at(kind, offset)
@@ -129,13 +155,15 @@ class Parts:
         low, high = self.with_before(kind, part)
         return Inner(low - offset, high - offset, name + part.path)
 
-    def missed_part(self, kind: int, offset: int, step: int, name: str, width: int) -> Optional[Missed]:
+    def missed_part(self, kind: int, offset: int, step: int, name: str,
+                    width: int) -> Optional[Missed]:
         """What tells of an access of so many bytes the array member at an offset that it misses, if
         one is there. A member that begins at the offset itself may be meant, too."""
         found = self.types.array_at(kind, offset, BEFORE)
         if found is None or not step:
             return None
-        part, free = found, -1 if found.begin <= offset < found.end else offset
+        part = found
+        free = -1 if found.begin <= offset < found.end else offset
 
         def missed(address: int, origin: int) -> Optional[Thing]:
             at = (address - origin) % step
@@ -148,16 +176,22 @@ class Parts:
         return missed
 
     def indexed_member(self, one: Operation, base: Value) -> Optional[Limit]:
-        """The limit of an access by a structure's pointer and an index. The pointer's value was kept when the index was added."""
-        kind, width, register = base.more, one.width, one.rs1
-        offset, step, name = base.offset + one.imm, self.types.size(kind), self.types.name(kind)
+        """The limit of an access by a structure's pointer and an index. The pointer's value was
+        kept when the index was added."""
+        kind = base.more
+        width = one.width
+        register = one.rs1
+        offset = base.offset + one.imm
+        step = self.types.size(kind)
+        name = self.types.name(kind)
         told = self.missed_part(kind, offset, step, name, width)
         if told is None:
             return None
         missed = told
 
         def limit(hart: Hart, address: int) -> Optional[Thing]:
-            tag, kept = hart.tags[register], hart.indexed[register]
+            tag = hart.tags[register]
+            kept = hart.indexed[register]
             if tag is not None and not tag.holds(address, width):
                 return tag
             if kept is None:
@@ -167,11 +201,13 @@ class Parts:
         return limit
 
     def indexed_elements(self, one: Operation, base: Value) -> Optional[Limit]:
-        """The limit of an access by an index into a global array of structures, in which an array is a member."""
+        """The limit of an access by an index into a global array of structures, in which an array
+        is a member."""
         of = self.elements(base.offset + one.imm) if base.more or one.imm else None
         if of is None:
             return None
-        begin, end = of.begin, of.end
+        begin = of.begin
+        end = of.end
         offset = (base.offset + one.imm - begin) % of.size
         told = self.missed_part(of.type, offset, of.size, of.name + "[]", one.width)
         if told is None:
@@ -182,7 +218,8 @@ class Parts:
     # Variables of a frame.
 
     def place(self, pc: int, offset: int, is_indexed: bool = False) -> Optional[Place]:
-        """The variable of the frame at an offset, from there; of indexed places arrays alone, and those it may be meant for."""
+        """The variable of the frame at an offset, from there; of indexed places arrays alone, and
+        those it may be meant for."""
         first = self.program.function_at(pc).first
         listed = self.program.locals_of(first) or []
         inside = [each for each in listed if each.offset <= offset < each.end]
@@ -190,11 +227,13 @@ class Parts:
         if is_indexed:
             inside = [each for each in inside if each.has_parts]
             inside += [each for each in listed if each.has_parts and inside and (
-                each.end == offset or 0 < each.offset - offset <= BEFORE and all(other.offset != offset for other in inside))]
+                each.end == offset or 0 < each.offset - offset <= BEFORE
+                and all(other.offset != offset for other in inside))]
             return place_of(inside, [], offset) if inside else None
         begins_here = any(each.offset == offset for each in inside)
         before = [each for each in listed if begins_here and each.end == offset]
-        chosen = inside or [each for each in listed if each.end == offset or 0 < each.offset - offset <= NEAR]
+        chosen = inside or [each for each in listed if each.end == offset
+                            or 0 < each.offset - offset <= NEAR]
         if chosen:
             return place_of(chosen, before, offset)._replace(scope=self.scope_of(pc, chosen))
         above = [at for at in self.facts.slots.get(first, {}) if at > offset]
@@ -202,9 +241,12 @@ class Parts:
         return Place(None, min(above) - offset, "") if above and offset < 0 else None
 
     def scope_of(self, pc: int, chosen: list[Local]) -> Optional[tuple[int, int]]:
-        """The block of a variable. Of optimized code it isn't known, since instructions leave their blocks, or are of two."""
-        function, one = self.program.function_at(pc), chosen[0]
-        is_inner = len(chosen) == 1 and (one.high - one.low) < function.end - function.first and one.low <= pc < one.high
+        """The block of a variable. Of optimized code it isn't known, since instructions leave their
+        blocks, or are of two."""
+        function = self.program.function_at(pc)
+        one = chosen[0]
+        is_inner = (len(chosen) == 1 and (one.high - one.low) < function.end - function.first
+                    and one.low <= pc < one.high)
         return (one.low, one.high) if is_inner and self.program.is_plain(function.first) else None
 
     def indexed_local(self, one: Operation, base: Value) -> Optional[Limit]:
@@ -216,8 +258,12 @@ class Parts:
         if found is None or found.low is None:
             return None
         offset = base.offset + one.imm - stack.offset       # from sp
-        low, high, first, width = offset + found.low, offset + found.high, offset + found.begin, one.width
-        name, begin = local_name(found.name, self.program.function_of(one.pc)), -stack.offset
+        low = offset + found.low
+        high = offset + found.high
+        first = offset + found.begin
+        width = one.width
+        name = local_name(found.name, self.program.function_of(one.pc))
+        begin = -stack.offset
 
         def limit(hart: Hart, address: int) -> Optional[Thing]:
             at = address - hart.sp
@@ -243,8 +289,8 @@ class Parts:
 def place_of(chosen: list[Local], before: list[Local], offset: int) -> Place:
     names = sorted({each.name for each in chosen if each.name})
     first = min(each.offset for each in chosen)
-    return Place(min([first] + [each.offset for each in before]) - offset, max(each.end for each in chosen) - offset,
-                 "/".join(names[:2]), first - offset)
+    return Place(min([first] + [each.offset for each in before]) - offset,
+                 max(each.end for each in chosen) - offset, "/".join(names[:2]), first - offset)
 
 
 def local_name(name: str, function: str) -> str:

@@ -1,4 +1,5 @@
-"""Words of global objects that are pointers by their type, and what is stored to them that is no pointer."""
+"""Words of global objects that are pointers by their type, and what is stored to them that is no
+pointer."""
 from __future__ import annotations
 
 import re
@@ -11,8 +12,10 @@ from .operation import FULL, Operation
 from .program import Program
 from .state import CODE, Event, Hart, Memory, Thing
 
-COPIES = re.compile(r"_*(mem(cpy|move|set|ccpy)|bcopy|bzero)(_.*)?")     # they move bytes of whatever type
-LEAST_ADDRESS = 4096        # small numbers, and those as close to the upper end, are marks that many programs put into pointers
+# They move bytes of whatever type
+COPIES = re.compile(r"_*(mem(cpy|move|set|ccpy)|bcopy|bzero)(_.*)?")
+# Small numbers, and those as close to the upper end, are marks that many programs put into pointers
+LEAST_ADDRESS = 4096
 
 
 @dataclass
@@ -24,12 +27,16 @@ class Suspect:
 
 
 class PointerWords:
-    """sorts   of each word what it leads to, 0 if it is no pointer; a store to one is judged once other words are stored to, since
-    several stores can make one pointer. renew: what is called if code is stored to"""
+    """sorts   of each word what it leads to, 0 if it is no pointer; a store to one is judged once
+    other words are stored to, since several stores can make one pointer. renew: what is called if
+    code is stored to"""
 
     def __init__(self, program: Program, memory: Memory, findings: Findings,
                  renew: Callable[[], None]) -> None:
-        self.program, self.memory, self.findings, self.renew = program, memory, findings, renew
+        self.program = program
+        self.memory = memory
+        self.findings = findings
+        self.renew = renew
         self.sorts = bytearray(memory.size // 4 + 2)
         self.suspects: Dict[int, Suspect] = {}
         for each in program.sized:
@@ -41,7 +48,8 @@ class PointerWords:
     def stored(self, hart: Hart, one: Operation, row: bytes, address: int,
                tag: Optional[Thing]) -> bool:
         """Whether the word is code of a block, which isn't true any more."""
-        word, value = address >> 2, int(row[-8:], 16)
+        word = address >> 2
+        value = int(row[-8:], 16)
         if self.sorts[word] == CODE:
             self.renew()
             return True
@@ -68,7 +76,10 @@ class PointerWords:
         for word, one in self.suspects.items():
             if not self.is_pointer(one.value, word):
                 name = self.program.name(word * 4)
-                caller = self.program.function_at(one.when.pcs[1]).first if len(one.when.pcs) > 1 else 0
-                self.findings.add((POINTER, self.program.function_at(one.pc).first, caller), Finding(
-                    POINTER, f"{one.value:08x} gets into the pointer {name}, and is none", one.when))
+                caller = (self.program.function_at(one.when.pcs[1]).first if len(one.when.pcs) > 1
+                          else 0)
+                self.findings.add((POINTER, self.program.function_at(one.pc).first, caller),
+                                  Finding(
+                    POINTER,
+                    f"{one.value:08x} gets into the pointer {name}, and is none", one.when))
         self.suspects = {}

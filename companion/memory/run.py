@@ -13,7 +13,8 @@ from .heap import STORES, Hook, hooks_of
 from .program import Program
 from .state import Hart
 
-FAULTED, RESULT = b" | fault ", b"| a0="
+FAULTED = b" | fault "
+RESULT = b"| a0="
 FEW = 6                     # rows of a turn on average: shorter ones are followed row by row
 
 
@@ -24,10 +25,12 @@ class Run(Checks):
                  is_plain: bool = False) -> None:
         """A plain one follows row by row, which says the same as blocks."""
         super().__init__(log, program, hooks)
-        self.read, self.is_plain = 0, is_plain
+        self.read = 0
+        self.is_plain = is_plain
         self.actions = [Actions(self, hart) for hart in self.harts]
         self.blocks = [Blocks(actions) for actions in self.actions]
-        # Of the function that is passed over: what wrote a0 last, and what stored the result of posix_memalign.
+        # Of the function that is passed over: what wrote a0 last, and what stored the result of
+        # posix_memalign.
         self.results: Dict[int, Optional[bytes]] = {}
         self.stored: Dict[int, Optional[bytes]] = {}
 
@@ -49,8 +52,12 @@ class Run(Checks):
     def by_blocks(self, text: bytes) -> None:
         """The rows of a hart that follow each other."""
         number = int(text[:2])
-        hart, actions, blocks = self.harts[number], self.actions[number], self.blocks[number]
-        begin, at, size = key_begin(text), 0, len(text)
+        hart = self.harts[number]
+        actions = self.actions[number]
+        blocks = self.blocks[number]
+        begin = key_begin(text)
+        at = 0
+        size = len(text)
         if begin != key_begin(text[text.rfind(b"\n") + 1:]):
             # A count has a digit more, the first one with so many zeros.
             longer = text.find(b"\n%d 1%s " % (number, b"0" * (begin - 2 - len(str(number)))))
@@ -59,7 +66,8 @@ class Run(Checks):
             if longer < 0:
                 self.row_by_row(text)
             return
-        actions.begin, careful = begin, actions.careful
+        actions.begin = begin
+        careful = actions.careful
         while at < size:
             if hart.awaited is not None:
                 at = self.passed_over(hart, text, at, begin)
@@ -96,7 +104,8 @@ class Run(Checks):
         assert hart.awaited
         if hart.returns and hart.returns[-1] == int(hart.awaited.back, 16):
             hart.returns.pop()
-        self.heap.returned(hart, self.results.pop(hart.number, None), self.stored.pop(hart.number, None))
+        self.heap.returned(hart, self.results.pop(hart.number, None),
+                           self.stored.pop(hart.number, None))
 
     def row_by_row(self, text: bytes) -> None:
         by_text = {b"%-2d" % hart.number: (hart, actions)
@@ -114,8 +123,10 @@ class Run(Checks):
             (actions.careful if hart.undefined else actions)[key](row)
 
 
-def run_of(log: Log, elf_name: str, named: Elf, takes: Sequence[str] = (), gives: Sequence[str] = ()) -> Run:
-    """The checks of a log, after its last row. `takes` and `gives` are what --alloc and --free name."""
+def run_of(log: Log, elf_name: str, named: Elf, takes: Sequence[str] = (),
+           gives: Sequence[str] = ()) -> Run:
+    """The checks of a log, after its last row. `takes` and `gives` are what --alloc and --free
+    name."""
     program = Program(named)
     run = Run(log, program, hooks_of(program, takes, gives))
     run.along(chunks(log.name, elf_name, log=log))

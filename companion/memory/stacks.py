@@ -1,4 +1,5 @@
-"""The harts' stacks: how deep they are, what they have run into, and which of their bytes are whose."""
+"""The harts' stacks: how deep they are, what they have run into, and which of their bytes are
+whose."""
 from __future__ import annotations
 
 import bisect
@@ -12,7 +13,8 @@ from .program import Program
 from .state import ENDED, GOOD, UNWRITTEN, Event, Hart, Memory, Thing
 from .value import ABSOLUTE
 
-OWN_BYTES = 65536           # of a stack that has nothing else below: so many are its own for certain
+# Of a stack that has nothing else below: so many are its own for certain
+OWN_BYTES = 65536
 LARGEST = 8 << 20           # bytes: a stack pointer farther down is another stack's
 LARGEST_FRAME = 1 << 20     # bytes
 WRITABLE = 2                # a segment's flag
@@ -21,8 +23,13 @@ WRITABLE = 2                # a segment's flag
 class Stacks:
     """Of a log that lost its beginning the begin of a stack isn't known."""
 
-    def __init__(self, program: Program, memory: Memory, heap: Heap, findings: Findings, harts: List[Hart]) -> None:
-        self.program, self.memory, self.heap, self.findings, self.harts = program, memory, heap, findings, harts
+    def __init__(self, program: Program, memory: Memory, heap: Heap, findings: Findings,
+                 harts: List[Hart]) -> None:
+        self.program = program
+        self.memory = memory
+        self.heap = heap
+        self.findings = findings
+        self.harts = harts
         for hart in harts:
             self.set_limit(hart)
 
@@ -53,7 +60,8 @@ class Stacks:
             if new < hart.lowest:
                 self.deepen(hart, new, row, one)
         else:                                   # another stack: of it nothing is known
-            hart.is_own, hart.is_away = False, True
+            hart.is_own = False
+            hart.is_away = True
             self.memory.fill(hart.lowest, hart.top, GOOD)
         hart.sp = new
 
@@ -79,22 +87,28 @@ class Stacks:
     # How deep they are.
 
     def set_limit(self, hart: Hart) -> None:
-        """The address down to which a stack may grow for certain: above what lies below it, or its own bytes."""
+        """The address down to which a stack may grow for certain: above what lies below it, or its
+        own bytes."""
         below = [each.end if each.end <= hart.top else each.address
                  for each in self.program.sized if each.address < hart.top]
-        parts = [part.address + part.size for part in self.program.elf.parts if part.address + part.size <= hart.top]
+        parts = [part.address + part.size
+                 for part in self.program.elf.parts if part.address + part.size <= hart.top]
         hart.limit = max(below + parts + [hart.top - OWN_BYTES, 0])
 
     def deepen(self, hart: Hart, new: int, row: bytes, one: Operation) -> None:
         if hart.is_away or new < hart.top - LARGEST or new > self.memory.size:
             return
-        hart.lowest, hart.lowest_at = new, hart.event(row, one.pc)
-        met = self.met(hart, new) if new < hart.limit and not hart.has_met and self.heap.is_whole else ""
+        hart.lowest = new
+        hart.lowest_at = hart.event(row, one.pc)
+        met = (self.met(hart, new) if new < hart.limit and not hart.has_met and self.heap.is_whole
+               else "")
         if met:
-            hart.has_met, hart.is_own = True, False
+            hart.has_met = True
+            hart.is_own = False
             self.memory.fill(new, hart.top, GOOD)       # from here on its bytes are others' as well
             self.findings.add((DEPTH, hart.number), Finding(
-                DEPTH, f"the stack of hart {hart.number} is {hart.top - new:,} bytes deep, and has run into {met}", hart.lowest_at))
+                DEPTH, f"the stack of hart {hart.number} is {hart.top - new:,} bytes deep, "
+                f"and has run into {met}", hart.lowest_at))
 
     def met(self, hart: Hart, low: int) -> str:
         """What is at a place that a stack has come to, or nothing."""
@@ -107,13 +121,15 @@ class Stacks:
         at = bisect.bisect_right(self.heap.begins, low) - 1
         if at >= 0 and low < self.heap.live[self.heap.begins[at]].end:
             return f"a block of {self.heap.live[self.heap.begins[at]].size} bytes"
-        other = next((other for other in self.harts if other is not hart and other.lowest <= low < other.top), None)
+        other = next((other for other in self.harts
+                      if other is not hart and other.lowest <= low < other.top), None)
         return f"the stack of hart {other.number}" if other else ""
 
     # Returns that fit no call.
 
     def strayed(self, hart: Hart, to: int, row: bytes, one: Operation) -> None:
-        """A return leads to a place behind no call. It is wrong if the address was saved otherwise in the frame that has it."""
+        """A return leads to a place behind no call. It is wrong if the address was saved otherwise
+        in the frame that has it."""
         loaded = hart.rows[RA] if one.rs1 == RA else None
         if isinstance(loaded, bytes) and b" | load " in loaded and hart.is_own:
             at = int(loaded[-17:-9], 16)
@@ -121,7 +137,8 @@ class Stacks:
             here = self.program.function_at(one.pc)
             if register == RA and here.first <= by < here.end and saved[-8:] != loaded[-8:]:
                 self.findings.add((RETURN, here.first), Finding(
-                    RETURN, f"{here.name} returns to {to:08x}: its return address was {saved[-8:].decode()} when it was saved",
+                    RETURN, f"{here.name} returns to {to:08x}: "
+                    f"its return address was {saved[-8:].decode()} when it was saved",
                     hart.event(row, one.pc)))
         hart.returns.clear()
 

@@ -1,4 +1,5 @@
-"""What the checks keep along the rows: what pointers were made for, the state of each byte, the registers of each hart."""
+"""What the checks keep along the rows: what pointers were made for, the state of each byte, the
+registers of each hart."""
 from __future__ import annotations
 
 from dataclasses import dataclass
@@ -12,15 +13,23 @@ from .operation import CALLER_SAVED, FULL
 GOOD, UNWRITTEN, SAVED, BESIDE, FREED, ENDED, PARTLY, COPIED = range(8)
 UNDEFINED = frozenset((UNWRITTEN, PARTLY, COPIED))
 FORBIDDEN = frozenset((SAVED, BESIDE, FREED, ENDED))
-BLOCK, GLOBAL, MEMBER, FRAME, NULL, NUMBER = "block", "global", "member", "frame", "null", "number"
+BLOCK = "block"
+GLOBAL = "global"
+MEMBER = "member"
+FRAME = "frame"
+NULL = "null"
+NUMBER = "number"
 ZEROS = {size: bytes(size) for size in (1, 2, 4, 8)}      # states of bytes of which all are GOOD
 MOST_CALLERS = 12           # places of a call stack that are kept of an event
 DEEPEST_SEARCH = 200        # calls that a return may leave at once, as longjmp does
 
-CODE = 4                    # of a word, beside what a pointer leads to: code that a block was made of
+# Of a word, beside what a pointer leads to: code that a block was made of
+CODE = 4
 
-Act = Callable[[bytes], Optional[bool]]         # of a row; True if what looks at the next one has changed
-Text = Tuple[str, str]      # of Python: when an action itself has to be asked, and what it does else
+# Of a row; True if what looks at the next one has changed
+Act = Callable[[bytes], Optional[bool]]
+# Of Python: when an action itself has to be asked, and what it does else
+Text = Tuple[str, str]
 
 
 def nothing(_: bytes) -> None:
@@ -36,18 +45,25 @@ class Event:
 
 
 class Thing:
-    """What a pointer may point into: from `low` up to `high`; nothing is left of it once it is gone.
+    """What a pointer may point into: from `low` up to `high`; nothing is left of it once it is
+    gone.
 
-    kind     of the six above; a `NUMBER` is the difference of two pointers, and may point anywhere once it is added to one
+    kind     of the six above; a `NUMBER` is the difference of two pointers, and may point anywhere
+             once it is added to one
     begin, end      as they are, without what is before an object whose end may have been meant
     taken, gone     when it was taken and given back
-    is_part  whether it is a part of an object; owner: the function in whose frame it is, by its first address"""
+    is_part  whether it is a part of an object; owner: the function in whose frame it is, by its
+             first address"""
     __slots__ = "low", "high", "kind", "name", "begin", "end", "taken", "gone", "is_part", "owner"
 
-    def __init__(self, low: int, high: int, kind: str, name: str = "", taken: Optional[Event] = None) -> None:
+    def __init__(self, low: int, high: int, kind: str, name: str = "",
+                 taken: Optional[Event] = None) -> None:
         self.low = self.begin = low
         self.high = self.end = high
-        self.kind, self.name, self.taken, self.is_part = kind, name, taken, False
+        self.kind = kind
+        self.name = name
+        self.taken = taken
+        self.is_part = False
         self.gone: Optional[Event] = None
         self.owner = 0
 
@@ -56,7 +72,9 @@ class Thing:
         return self.end - self.begin
 
     def end_life(self, when: Event) -> None:
-        self.gone, self.low, self.high = when, FULL, 0
+        self.gone = when
+        self.low = FULL
+        self.high = 0
 
     def holds(self, address: int, size: int) -> bool:
         return self.low <= address and address + size <= self.high
@@ -67,25 +85,35 @@ class Thing:
 
 
 class Scoped(Thing):
-    """A variable of a block that its function can leave: each access asks for it, since none is in low..high.
+    """A variable of a block that its function can leave: each access asks for it, since none is in
+    low..high.
 
     scope    the addresses of the block, and function: those of the function
     hart     whose frame it is in; depth: how many calls were under way there"""
     __slots__ = "scope", "function", "hart", "depth"
 
-    def __init__(self, thing: Thing, scope: Tuple[int, int], function: Tuple[int, int], hart: Hart) -> None:
+    def __init__(self, thing: Thing, scope: Tuple[int, int],
+                 function: Tuple[int, int], hart: Hart) -> None:
         super().__init__(FULL, 0, FRAME, thing.name)
-        self.begin, self.end, self.owner = thing.begin, thing.end, thing.owner
-        self.scope, self.function, self.hart, self.depth = scope, function, hart.number, len(hart.returns)
+        self.begin = thing.begin
+        self.end = thing.end
+        self.owner = thing.owner
+        self.scope = scope
+        self.function = function
+        self.hart = hart.number
+        self.depth = len(hart.returns)
 
     def holds(self, address: int, size: int) -> bool:
         return self.gone is None and self.begin <= address and address + size <= self.end
 
     def has_ended(self, hart: Hart, pc: int) -> bool:
-        """(The place of another hart's function isn't known, nor after calls that weren't followed: then nothing is said.)"""
+        """(The place of another hart's function isn't known, nor after calls that weren't followed:
+        then nothing is said.)"""
         if self.gone is not None or hart.number != self.hart:
             return self.gone is not None
-        at = pc if len(hart.returns) == self.depth else hart.returns[self.depth] - 4 if len(hart.returns) > self.depth else 0
+        at = pc
+        if len(hart.returns) != self.depth:
+            at = hart.returns[self.depth] - 4 if len(hart.returns) > self.depth else 0
         return self.function[0] <= at < self.function[1] and not self.scope[0] <= at < self.scope[1]
 
 
@@ -100,31 +128,37 @@ class Origin(NamedTuple):
 
 
 class Undefined(NamedTuple):
-    """The bits of a register that nobody wrote; of no `origin` are those of a library's own frame, whose matter they are."""
+    """The bits of a register that nobody wrote; of no `origin` are those of a library's own frame,
+    whose matter they are."""
     bits: int
     origin: Optional[Origin]
 
 
 class Asked:
-    """Memory that a function asks for on its stack while it runs: sp behind it, its bytes, and the thing once there is a pointer."""
+    """Memory that a function asks for on its stack while it runs: sp behind it, its bytes, and the
+    thing once there is a pointer."""
     __slots__ = "sp", "size", "thing"
 
     def __init__(self, sp: int, size: int) -> None:
-        self.sp, self.size = sp, size
+        self.sp = sp
+        self.size = size
         self.thing: Optional[Thing] = None
 
 
 class Hart:
     """tags      of each register what its value points into, or None
     rows      of each register the row that wrote it last, or its value, or None
-    indexed   of each register the row or the value of the structure's pointer to which an index was added
+    indexed   of each register the row or the value of the structure's pointer to which an index was
+              added
     undefined {register: its bits that nobody wrote}
-    texts     {action: what it does with most rows, for blocks.py}: `place` is the address that a row
-              accesses. That the row wrote its register isn't said
+    texts     {action: what it does with most rows, for blocks.py}: `place` is the address that a
+              row accesses. That the row wrote its register isn't said
     returns   the addresses to which the calls that are under way return
     places    things of frames to which pointers were made, outermost first
-    sp        the stack pointer, None if it isn't known; top, lowest: of its stack; limit: it may grow down to this for certain
-    is_own    whether what is known of its stack is true (not after a change of stacks); is_away: it is on another one
+    sp        the stack pointer, None if it isn't known; top, lowest: of its stack; limit: it may
+              grow down to this for certain
+    is_own    whether what is known of its stack is true (not after a change of stacks); is_away: it
+              is on another one
     asking    the row of the sum that becomes the size of memory on its stack; asked: that memory
     awaited   what an allocator's function that is under way will give"""
 
@@ -141,7 +175,9 @@ class Hart:
         self.top = self.lowest = self.sp
         self.lowest_at: Optional[Event] = None
         self.limit = 0
-        self.is_own, self.has_met, self.is_away = True, False, False
+        self.is_own = True
+        self.has_met = False
+        self.is_away = False
         self.asking = b""
         self.asked: Optional[Asked] = None
         self.awaited: Optional[Awaited] = None
@@ -194,7 +230,8 @@ class Awaited(NamedTuple):
 class Memory:
     """states  of each byte
     tags    of each word what the pointer in it points into
-    bits, origins  {address of a byte that is PARTLY or COPIED: its bits that nobody wrote; their origin}
+    bits, origins  {address of a byte that is PARTLY or COPIED: its bits that nobody wrote; their
+                   origin}
     saved   {address: the register that was saved there, the place that saved it, and the row}"""
 
     def __init__(self, size: int) -> None:
@@ -221,7 +258,8 @@ class Memory:
 
     def forget_tags(self, begin: int, end: int) -> None:
         """The words with a byte from an address up to another point into nothing that is known."""
-        first, last = begin >> 2, min(end + 3, self.size) >> 2
+        first = begin >> 2
+        last = min(end + 3, self.size) >> 2
         if first < last:
             self.tags[first:last] = [None] * (last - first)
 

@@ -19,11 +19,14 @@ BY_NEGATIVE = "andi"        # with a negative constant it aligns a pointer
 
 class Sums:
     def __init__(self, checks: Checks, hart: Hart) -> None:
-        self.checks, self.hart = checks, hart
+        self.checks = checks
+        self.hart = hart
 
     def of_stack_pointer(self, one: Operation) -> Act:
-        hart, size = self.hart, size_asked(self.checks.facts, one)
-        rows, change = hart.rows, self.checks.stacks.grow_or_shrink if is_frame_move(one) else self.checks.stacks.set
+        hart = self.hart
+        size = size_asked(self.checks.facts, one)
+        rows = hart.rows
+        change = self.checks.stacks.grow_or_shrink if is_frame_move(one) else self.checks.stacks.set
 
         def act(row: bytes) -> None:
             hart.asked = size(hart, row) if size else None
@@ -51,10 +54,12 @@ class Sums:
             return self.copying(one)
         if one.name in ("add", "sub"):
             return self.adding(one)
-        return self.copying(one) if is_aligned_down(self.checks.facts, one) else self.without_tag(one)
+        return (self.copying(one) if is_aligned_down(self.checks.facts, one)
+                else self.without_tag(one))
 
     def made(self, one: Operation, value: Value) -> Optional[Act]:
-        """Of an instruction that makes a pointer: to a global object, a variable of the frame, an array member."""
+        """Of an instruction that makes a pointer: to a global object, a variable of the frame, an
+        array member."""
         parts = self.checks.parts
         if value.to == ABSOLUTE and value.more and one.name == "addi":
             if not value.indexed:
@@ -70,7 +75,9 @@ class Sums:
     def to_thing(self, one: Operation, thing: Optional[Thing], unless: int = 0) -> Act:
         """A pointer into a thing, unless a register already points into another."""
         hart = self.hart
-        tags, rows, rd = hart.tags, hart.rows, one.rd
+        tags = hart.tags
+        rows = hart.rows
+        rd = one.rd
 
         def act(row: bytes) -> None:
             tags[rd] = tags[unless] or thing
@@ -90,7 +97,8 @@ class Sums:
         return act
 
     def asking(self, one: Operation) -> Act:
-        hart, copy = self.hart, self.copying(one)
+        hart = self.hart
+        copy = self.copying(one)
 
         def act(row: bytes) -> None:
             hart.asking = row
@@ -99,7 +107,9 @@ class Sums:
 
     def to_asked(self, one: Operation) -> Act:
         """A pointer to memory that the function asked for on its stack (dynamic.py)."""
-        hart, keep, copy = self.hart, self.checks.stacks.keep, self.copying(one)
+        hart = self.hart
+        keep = self.checks.stacks.keep
+        copy = self.copying(one)
         offset, alignment = pointer_to(self.checks.facts, one)
         spare = alignment - SPARED if alignment >= ROUNDED else 0
         if offset % ROUNDED:
@@ -119,7 +129,8 @@ class Sums:
         return act
 
     def to_member(self, one: Operation, value: Value) -> Optional[Act]:
-        hart, inner = self.hart, self.checks.parts.inner(one, value)
+        hart = self.hart
+        inner = self.checks.parts.inner(one, value)
         if inner is None:
             return None
         low, high, name = inner
@@ -127,21 +138,28 @@ class Sums:
 
         def act(row: bytes) -> None:
             nonlocal last
-            pointer, above = value_of(row), hart.tags[one.rs1]
-            if above is not None and above.kind == "block" and not above.low <= pointer < above.high:
+            pointer = value_of(row)
+            above = hart.tags[one.rs1]
+            if (above is not None and above.kind == "block"
+                    and not above.low <= pointer < above.high):
                 hart.tags[one.rd] = above       # the structure isn't in the block
             else:
-                end = pointer + high if above is None or above.kind != "block" else min(pointer + high, above.high)
+                end = (pointer + high if above is None or above.kind != "block"
+                       else min(pointer + high, above.high))
                 if last is None or last.low != pointer + low or last.high != end:
                     last = Thing(pointer + low, end, MEMBER, name)
-                    last.begin, last.is_part = pointer, True
+                    last.begin = pointer
+                    last.is_part = True
                 hart.tags[one.rd] = last
             hart.rows[one.rd] = row
         return act
 
     def copying(self, one: Operation) -> Act:
         hart = self.hart
-        tags, rows, rd, rs = hart.tags, hart.rows, one.rd, one.rs1
+        tags = hart.tags
+        rows = hart.rows
+        rd = one.rd
+        rs = one.rs1
 
         def act(row: bytes) -> None:
             tags[rd] = tags[rs]
@@ -150,26 +168,35 @@ class Sums:
         return act
 
     def adding(self, one: Operation) -> Act:
-        """A pointer and a number are that pointer's place; the difference of two may lead from one to the other."""
+        """A pointer and a number are that pointer's place; the difference of two may lead from one
+        to the other."""
         hart = self.hart
-        tags, rows, rd, rs1, rs2 = hart.tags, hart.rows, one.rd, one.rs1, one.rs2
+        tags = hart.tags
+        rows = hart.rows
+        rd = one.rd
+        rs1 = one.rs1
+        rs2 = one.rs2
 
         def add(row: bytes) -> None:
-            x, y = tags[rs1], tags[rs2]
+            x = tags[rs1]
+            y = tags[rs2]
             tags[rd] = y if x is None else x if y is None else None
             rows[rd] = row
 
         def subtract(row: bytes) -> None:
-            x, y = tags[rs1], tags[rs2]
+            x = tags[rs1]
+            y = tags[rs2]
             tags[rd] = x if y is None else DIFFERENCE
             rows[rd] = row
 
         def unsure(row: bytes) -> None:
-            number = hart.value(rs1 if tags[rs1] is None else rs2) if None in (tags[rs1], tags[rs2]) else 0
+            number = (hart.value(rs1 if tags[rs1] is None else rs2)
+                      if None in (tags[rs1], tags[rs2]) else 0)
             (add if one.name == "add" else subtract)(row)
             if number is None or LEAST_ADDRESS <= number <= FULL - LEAST_ADDRESS:
                 tags[rd] = None
-        if not self.checks.is_whole:            # what isn't a small number may be a pointer, or the difference of two
+        # What isn't a small number may be a pointer, or the difference of two
+        if not self.checks.is_whole:
             return unsure
         if one.name == "sub":
             return subtract
@@ -180,7 +207,12 @@ class Sums:
     def indexing(self, one: Operation) -> Act:
         """An index is added to a structure's pointer, whose value is kept."""
         hart = self.hart
-        tags, rows, kept, rd, rs1, rs2 = hart.tags, hart.rows, hart.indexed, one.rd, one.rs1, one.rs2
+        tags = hart.tags
+        rows = hart.rows
+        kept = hart.indexed
+        rd = one.rd
+        rs1 = one.rs1
+        rs2 = one.rs2
         pointer = rs1 if one.base and one.base.to == POINTER else rs2
         value = one.base if pointer == rs1 else one.other
         was_indexed = value is not None and value.indexed
@@ -189,14 +221,17 @@ class Sums:
 
         def act(row: bytes) -> None:
             kept[rd] = kept[pointer] if was_indexed else rows[pointer]
-            x, y = tags[rs1], tags[rs2]
+            x = tags[rs1]
+            y = tags[rs2]
             tags[rd] = y if x is None else x if y is None else None
             rows[rd] = row
         return act
 
     def without_tag(self, one: Operation) -> Act:
         hart = self.hart
-        tags, rows, rd = hart.tags, hart.rows, one.rd
+        tags = hart.tags
+        rows = hart.rows
+        rd = one.rd
 
         def act(row: bytes) -> None:
             tags[rd] = None
@@ -205,24 +240,32 @@ class Sums:
         return act
 
 
-def frame_thing(checks: Checks, hart: Hart, one: Operation, value: Value) -> Optional[Callable[[int], Thing]]:
+def frame_thing(checks: Checks, hart: Hart, one: Operation,
+                value: Value) -> Optional[Callable[[int], Thing]]:
     """What gives the thing of a pointer to a place of the frame."""
-    found, keep = checks.parts.place(one.pc, value.offset), checks.stacks.keep
+    found = checks.parts.place(one.pc, value.offset)
+    keep = checks.stacks.keep
     if found is None:
         return None
-    below, above, begin = found.low, found.high, found.begin
-    function, scope = checks.facts.program.function_at(one.pc), found.scope
+    below = found.low
+    above = found.high
+    begin = found.begin
+    function = checks.facts.program.function_at(one.pc)
+    scope = found.scope
     name = local_name(found.name, function.name)
     last: Optional[Thing] = None
     last_of = 0, 0, 0                           # its begin, its end, and the depth of calls
 
     def thing_at(pointer: int) -> Thing:
         nonlocal last, last_of
-        low, high, depth = hart.sp if below is None else pointer + below, pointer + above, len(hart.returns)
+        low = hart.sp if below is None else pointer + below
+        high = pointer + above
+        depth = len(hart.returns)
         if last is None or last.gone or last_of != (low, high, depth):
             last_of = low, high, depth
             last = Thing(low, high, FRAME, name)
-            last.begin, last.owner = low if below is None else pointer + begin, function.first
+            last.begin = low if below is None else pointer + begin
+            last.owner = function.first
             if scope is not None:
                 last = Scoped(last, scope, function[:2], hart)
             keep(hart, last)

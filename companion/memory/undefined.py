@@ -29,9 +29,10 @@ def signed_shift(bits: int, by: int) -> int:
 
 
 def result_bits(hart: Hart, one: Operation, x: int, y: int) -> int:
-    """The bits of a result that depend on bits that nobody wrote: x of rs1, y of rs2. Exact for what moves and masks bits; else as
-    many as may."""
-    name, imm = one.name, one.imm
+    """The bits of a result that depend on bits that nobody wrote: x of rs1, y of rs2. Exact for
+    what moves and masks bits; else as many as may."""
+    name = one.name
+    imm = one.imm
     if name in SPREADING or name == "addi" and imm:
         return spread(x | y)
     if name in ("addi", "xori", "xor"):
@@ -51,7 +52,8 @@ def result_bits(hart: Hart, one: Operation, x: int, y: int) -> int:
     by = hart.value(one.rs2)
     if name in ("sll", "srl", "sra") and not y and by is not None:
         by &= 31
-        return x << by & FULL if name == "sll" else x >> by if name == "srl" else signed_shift(x, by)
+        return (x << by & FULL if name == "sll" else x >> by if name == "srl"
+                else signed_shift(x, by))
     return 1 if name in COMPARING else FULL
 
 
@@ -66,12 +68,16 @@ def masked_bits(hart: Hart, one: Operation, x: int, y: int) -> int:
 
 class UndefinedBits:
     def __init__(self, judge: Judge) -> None:
-        self.judge, self.program, self.memory = judge, judge.program, judge.memory
+        self.judge = judge
+        self.program = judge.program
+        self.memory = judge.memory
 
     def around(self, hart: Hart, one: Operation, act: Act, hook: Optional[Hook]) -> Act:
-        """A row's action while a register has such bits: what depends on them before it, and the bytes that have them after it."""
+        """A row's action while a register has such bits: what depends on them before it, and the
+        bytes that have them after it."""
         before = self.before(hart, one, hook)
-        is_store, source = one.kind == STORE, one.rs2
+        is_store = one.kind == STORE
+        source = one.rs2
 
         def both(row: bytes) -> bool:
             before(row)
@@ -82,9 +88,11 @@ class UndefinedBits:
         return both
 
     def before(self, hart: Hart, one: Operation, hook: Optional[Hook]) -> Callable[[bytes], None]:
-        """What a row uses; the register that it writes has none any more, unless the row brings some."""
+        """What a row uses; the register that it writes has none any more, unless the row brings
+        some."""
         if hook is not None:
-            given, name = A0 + hook.argument, hook.name
+            given = A0 + hook.argument
+            name = hook.name
             return lambda row: self.used(hart, one, row, (given,), f"what {name} is given depends")
         if one.kind == ALU:
             return lambda row: self.computed(hart, one)
@@ -107,7 +115,8 @@ class UndefinedBits:
 
     def computed(self, hart: Hart, one: Operation) -> None:
         """An instruction without an access has run."""
-        x, y = hart.undefined.get(one.rs1), hart.undefined.get(one.rs2) if one.rs2 else None
+        x = hart.undefined.get(one.rs1)
+        y = hart.undefined.get(one.rs2) if one.rs2 else None
         bits = result_bits(hart, one, x.bits if x else 0, y.bits if y else 0) if x or y else 0
         source = x or y
         if bits and one.rd and source:
@@ -135,35 +144,43 @@ class UndefinedBits:
                 self.memory.origins[address + at] = origin
 
     def branched(self, hart: Hart, one: Operation, row: bytes) -> None:
-        """A branch depends on them, unless other bits determine it, or a library's function looks at bytes that don't count."""
+        """A branch depends on them, unless other bits determine it, or a library's function looks
+        at bytes that don't count."""
         if one.rs1 not in hart.undefined and one.rs2 not in hart.undefined:
             return
         if one.name in ("beq", "bne"):
-            x, y = hart.value(one.rs1), hart.value(one.rs2)
+            x = hart.value(one.rs1)
+            y = hart.value(one.rs2)
             bits = sum_of_bits(hart, one)
             if x is not None and y is not None and (x ^ y) & ~bits & FULL:
                 return
         if not LOOKS.fullmatch(self.program.function_of(one.pc)):
             self.used(hart, one, row, (one.rs1, one.rs2), "a branch depends")
 
-    def used(self, hart: Hart, one: Operation, row: bytes, registers: Tuple[int, ...], what: str) -> None:
-        """Tells of the first of these registers that has such bits; it is good then, so that one error is told once."""
+    def used(self, hart: Hart, one: Operation, row: bytes,
+             registers: Tuple[int, ...], what: str) -> None:
+        """Tells of the first of these registers that has such bits; it is good then, so that one
+        error is told once."""
         for register in registers:
             if register in hart.undefined:
                 origin = hart.undefined.pop(register).origin
                 if origin is not None:
-                    self.tell(hart, one, row, f"{what} on bytes that nobody wrote{origin.text}", origin)
+                    self.tell(hart, one, row,
+                              f"{what} on bytes that nobody wrote{origin.text}", origin)
                 return
 
     def tell(self, hart: Hart, one: Operation, row: bytes, text: str, origin: Origin) -> None:
         key = self.judge.key(UNINITIALIZED, one.pc, origin.thing)
-        self.judge.findings.add(key, Finding(UNINITIALIZED, text, hart.event(row, one.pc), origin.thing, origin.pc, "loaded"))
+        self.judge.findings.add(key, Finding(UNINITIALIZED, text, hart.event(row, one.pc),
+                                             origin.thing, origin.pc, "loaded"))
 
-    def written(self, hart: Hart, one: Operation, row: bytes, buffer: int, size: int, at: int) -> None:
+    def written(self, hart: Hart, one: Operation, row: bytes, buffer: int,
+                size: int, at: int) -> None:
         """A byte of a `write` call is one that nobody wrote."""
         origin = self.origin(hart, one.pc, buffer + at)
         if origin is not None:
-            self.tell(hart, one, row, f"byte {at} of {size} that are written out is one that nobody wrote{origin.text}", origin)
+            self.tell(hart, one, row, f"byte {at} of {size} that are written out is one that "
+                      f"nobody wrote{origin.text}", origin)
 
     def origin(self, hart: Hart, pc: int, address: int) -> Optional[Origin]:
         """The origin of bytes that nobody wrote; None if that is a library's own frame."""
@@ -174,11 +191,13 @@ class UndefinedBits:
             return self.in_frame(hart, pc, address)
         block = self.judge.heap.holding(address)
         if block is not None:
-            return Origin(f", {address - block.begin} bytes into a block of {block.size} bytes", block, pc)
+            return Origin(f", {address - block.begin} bytes into a block of {block.size} bytes",
+                          block, pc)
         return Origin(f", at {address:08x}", None, pc)
 
     def in_frame(self, hart: Hart, pc: int, address: int) -> Optional[Origin]:
-        """Of which function's frame an address is, walked from the innermost one by what is known of each place."""
+        """Of which function's frame an address is, walked from the innermost one by what is known
+        of each place."""
         sp: Optional[int] = hart.sp
         for at in hart.callers(pc):
             one = self.judge.facts.operations.get(at)
@@ -191,7 +210,8 @@ class UndefinedBits:
                     return None
                 names = [each.name for each in self.program.locals_of(function.first) or ()
                          if each.name and each.offset <= address - begin < each.end]
-                return Origin(f", of {names[0] if names else 'the frame'} of {function.name}", None, pc)
+                return Origin(f", of {names[0] if names else 'the frame'} of {function.name}",
+                              None, pc)
             sp = begin
         return Origin(f", of the stack at {address:08x}", None, pc)
 

@@ -1,9 +1,11 @@
-"""Recordings that are tried side by side, and judged in their order: so an answer is the same however many are under way."""
+"""Recordings that are tried side by side, and judged in their order: so an answer is the same
+however many are under way."""
 from __future__ import annotations
 
 import os
 from pathlib import Path
-from typing import Callable, Dict, Generator, Generic, Iterable, Iterator, Mapping, Optional, TypeVar
+from typing import (Callable, Dict, Generator, Generic, Iterable, Iterator, Mapping,
+                    Optional, TypeVar)
 
 from ..call import streams
 from ..call.jobs import Jobs
@@ -11,21 +13,27 @@ from .record import ENDS, Quick, refusal
 from .same_end import Recording
 
 MOST_TRIES = 20000
-AHEAD = 4                   # so many tries for each that is under way may wait for those before them
+# So many tries for each that is under way may wait for those before them
+AHEAD = 4
 
 
 class Attempt:
     """A recording under way or done, of turns or of an input that is given."""
 
-    def __init__(self, quick: Quick, options: Mapping[str, str], elf: str, number: int, given: bytes, is_input: bool) -> None:
-        self.given, self.number = given, number
+    def __init__(self, quick: Quick, options: Mapping[str, str], elf: str, number: int,
+                 given: bytes, is_input: bool) -> None:
+        self.given = given
+        self.number = number
         self.log, self.book, self.said, self.err, source = (
-            os.path.join(quick.folder, f"{number}.{name}") for name in ("log", "book", "said", "err", "given"))
+            os.path.join(quick.folder, f"{number}.{name}")
+            for name in ("log", "book", "said", "err", "given"))
         self.files = [self.log, self.book, self.said, self.err, source]
         Path(source).write_bytes(given)
         more = [f"--input={source}", "--seed=0"] if is_input else []
-        words = ["record", *(f"{name}={value}" for name, value in options.items()), *more, "--", elf, self.log, self.book]
-        self.child = quick.start(self.said, self.err, *words, schedule="" if is_input else f"book:{source}")
+        words = ["record", *(f"{name}={value}" for name, value in options.items()), *more, "--",
+                 elf, self.log, self.book]
+        self.child = quick.start(self.said, self.err, *words,
+                                 schedule="" if is_input else f"book:{source}")
         self.status = 0
 
     def wait(self) -> None:
@@ -52,9 +60,11 @@ class SideBySide(Generic[A, C]):
     stopped  whether the search is to end"""
 
     def __init__(self, jobs: int) -> None:
-        self.jobs, self.stopped = jobs, False
+        self.jobs = jobs
+        self.stopped = False
         self.running: Jobs[A] = Jobs()
-        self.count, self.started = 0, 0
+        self.count = 0
+        self.started = 0
         self.progress = streams.Progress()
 
     def begin(self, asked: C) -> A:
@@ -66,13 +76,16 @@ class SideBySide(Generic[A, C]):
         self.running.kill()
 
     def is_ended(self) -> bool:
-        """Whether the search is to end: it was stopped, or has made all recordings that it may make."""
+        """Whether the search is to end: it was stopped, or has made all recordings that it may
+        make."""
         return self.stopped or self.count >= MOST_TRIES
 
-    def in_order(self, candidates: Iterable[C], judge: Callable[[A], Optional[R]]) -> Generator[Optional[R], None, None]:
+    def in_order(self, candidates: Iterable[C],
+                 judge: Callable[[A], Optional[R]]) -> Generator[Optional[R], None, None]:
         """What `judge` gives of each candidate."""
         ended: Dict[int, A] = {}
-        left, at = iter(candidates), self.started
+        left = iter(candidates)
+        at = self.started
         try:
             while not self.is_ended():
                 self.start(left, at + self.jobs * AHEAD)

@@ -1,4 +1,5 @@
-"""Trials: one recording after another, a child a processor, until one ends as wanted, or all to keep one of each ending."""
+"""Trials: one recording after another, a child a processor, until one ends as wanted, or all to
+keep one of each ending."""
 from __future__ import annotations
 
 import heapq
@@ -26,8 +27,8 @@ MOST_KEPT = 1000            # endings of which one recording each is kept
 
 
 class Numbers(NamedTuple):
-    """From the first to the last, or one of so many parts of them. Each part has numbers from all over, so that the lowest
-    are tried first on each machine."""
+    """From the first to the last, or one of so many parts of them. Each part has numbers from all
+    over, so that the lowest are tried first on each machine."""
     first: int
     last: int
     part: int = 1
@@ -37,11 +38,13 @@ class Numbers(NamedTuple):
         return range(self.first + self.part - 1, self.last + 1, self.parts)
 
     def __str__(self) -> str:
-        return f"{self.first:,} to {self.last:,}" + (f", part {self.part}/{self.parts}" if self.parts > 1 else "")
+        return f"{self.first:,} to {self.last:,}" + (f", part {self.part}/{self.parts}"
+                                                     if self.parts > 1 else "")
 
 
 class Ending(NamedTuple):
-    """How a trial ended: its status, and of a fault the place, as `bucket` tells it, or of an exit its code, if that isn't 0."""
+    """How a trial ended: its status, and of a fault the place, as `bucket` tells it, or of an exit
+    its code, if that isn't 0."""
     status: int
     place: str
 
@@ -58,8 +61,8 @@ class Count:
 
 
 class Endings:
-    """Counts how trials end, in the trials' order: one that ends early waits for those before it. So what is counted up to
-    the one that is found is the same each time."""
+    """Counts how trials end, in the trials' order: one that ends early waits for those before it.
+    So what is counted up to the one that is found is the same each time."""
 
     def __init__(self) -> None:
         self.counts: dict[Ending, Count] = {}
@@ -82,14 +85,20 @@ class Trial:
     status  that of the recording, once it is done; code: the exit code of one that ended well
     out     what the program wrote, if that is kept; err: what it wrote there, and the summary"""
 
-    def __init__(self, words: RecordWords, plan: Plan, folders: Sequence[str], quick: Quick, keeps_out: bool) -> None:
-        self.plan, self.words, self.status = plan, words, -1
+    def __init__(self, words: RecordWords, plan: Plan, folders: Sequence[str],
+                 quick: Quick, keeps_out: bool) -> None:
+        self.plan = plan
+        self.words = words
+        self.status = -1
         self.code: Optional[int] = None
         name = str(plan).replace(" ", "-")
-        self.outputs = [os.path.join(folder, f"{name}.{number}") for number, folder in enumerate(folders)]
-        self.said, self.err = self.outputs[0] + ".said", self.outputs[0] + ".err"
+        self.outputs = [os.path.join(folder, f"{name}.{number}")
+                        for number, folder in enumerate(folders)]
+        self.said = self.outputs[0] + ".said"
+        self.err = self.outputs[0] + ".err"
         self.out = self.outputs[0] + ".out" if keeps_out else os.devnull
-        self.child: Process = quick.start(self.out, self.err, *words.command(plan, self.outputs), schedule=plan.schedule())
+        self.child: Process = quick.start(self.out, self.err, *words.command(plan, self.outputs),
+                                          schedule=plan.schedule())
 
     def find_cause(self) -> str:
         with closing(LogFile(self.outputs[0])) as source:
@@ -102,7 +111,8 @@ class Trial:
 
     def end(self, status: int) -> None:
         """The recording is done."""
-        self.status, self.code = status, exit_code(self.outputs[0]) if status == DONE else None
+        self.status = status
+        self.code = exit_code(self.outputs[0]) if status == DONE else None
 
     def wrote(self) -> bytes:
         """What the program wrote to out, and to err."""
@@ -116,7 +126,8 @@ class Trial:
             Path(name).unlink(missing_ok=True)
 
     def save(self) -> None:
-        take_together([(place, name) for name, place in zip(self.outputs, self.words.targets(self.plan)) if os.path.exists(name)])
+        take_together([(place, name) for name, place
+                       in zip(self.outputs, self.words.targets(self.plan)) if os.path.exists(name)])
 
 
 class Buckets:
@@ -139,8 +150,9 @@ class Buckets:
 
 
 class TrialSearch:
-    """Trials in order; those above the lowest that was found are given up. Recordings in threads need a processor a hart, so
-    only one is under way, and the others wait for it. They don't repeat, so the first that ends as wanted ends the search.
+    """Trials in order; those above the lowest that was found are given up. Recordings in threads
+    need a processor a hart, so only one is under way, and the others wait for it. They don't
+    repeat, so the first that ends as wanted ends the search.
 
     wanted   what is searched for; None keeps one of each ending
     waiting  plans in threads whose turn came while another was under way
@@ -148,20 +160,26 @@ class TrialSearch:
     kept     those of each ending
     stopped  the signal that ends it, if one came"""
 
-    def __init__(self, words: RecordWords, numbers: Numbers, kinds: Sequence[Kind], wanted: Optional[Wanted], jobs: int,
-                 folders: Sequence[str]) -> None:
-        self.words, self.numbers, self.kinds, self.wanted = words, numbers, kinds, wanted
-        self.jobs, self.folders = jobs, folders
+    def __init__(self, words: RecordWords, numbers: Numbers, kinds: Sequence[Kind],
+                 wanted: Optional[Wanted], jobs: int, folders: Sequence[str]) -> None:
+        self.words = words
+        self.numbers = numbers
+        self.kinds = kinds
+        self.wanted = wanted
+        self.jobs = jobs
+        self.folders = folders
         self.running: Jobs[Trial] = Jobs()
         self.found: Optional[Trial] = None
         self.kept: dict[Ending, Trial] = {}
         self.waiting: deque[Plan] = deque()
         self.stopped = 0
-        self.endings, self.buckets = Endings(), Buckets(words.elf)
+        self.endings = Endings()
+        self.buckets = Buckets(words.elf)
         self.quick = Quick(self.folders[0])
         self.at = numbers.first
         self.plans = self.in_order()
-        self.progress, self.began = streams.Progress(), time.monotonic()
+        self.progress = streams.Progress()
+        self.began = time.monotonic()
 
     def in_order(self) -> Iterator[Plan]:
         for self.at in self.numbers.range():
@@ -170,7 +188,8 @@ class TrialSearch:
 
     def next_plan(self) -> Optional[Plan]:
         """The next that can begin now, if there is one."""
-        is_free = len(self.kinds) == 1 or not any(trial.plan.kind is Kind.THREADS for trial in self.running)
+        is_free = len(self.kinds) == 1 or not any(trial.plan.kind is Kind.THREADS
+                                                  for trial in self.running)
         if self.waiting and is_free:
             return self.waiting.popleft()
         for plan in self.plans:
@@ -187,7 +206,8 @@ class TrialSearch:
     def is_given_up(self, trial: Trial) -> bool:
         if self.found is None or trial is self.found:
             return False
-        return Kind.THREADS in (trial.plan.kind, self.found.plan.kind) or trial.plan > self.found.plan
+        return (Kind.THREADS in (trial.plan.kind, self.found.plan.kind)
+                or trial.plan > self.found.plan)
 
     def watch(self, trial: Trial) -> None:
         self.running.add(trial)
@@ -199,7 +219,8 @@ class TrialSearch:
             plan = self.next_plan()
             if plan is None:
                 return
-            self.watch(Trial(self.words, plan, self.folders, self.quick, bool(self.wanted and self.wanted.output)))
+            self.watch(Trial(self.words, plan, self.folders, self.quick,
+                             bool(self.wanted and self.wanted.output)))
 
     def keep(self, trial: Trial) -> None:
         if self.found is not None:
@@ -241,7 +262,8 @@ class TrialSearch:
         if self.wanted is None:
             first = self.kept.get(ending)
             if first and trial.plan < first.plan or not first and len(self.kept) < MOST_KEPT:
-                self.kept[ending], trial = trial, first or trial
+                self.kept[ending] = trial
+                trial = first or trial
             if trial is self.kept.get(ending):
                 return
         if trial is not self.found:

@@ -1,5 +1,6 @@
-"""The segments and symbols of an ELF file for 32-bit RISC-V. Any bytes can be given: what makes no sense is refused
-with a line, or left out, and takes no more memory than the file and its symbols."""
+"""The segments and symbols of an ELF file for 32-bit RISC-V. Any bytes can be given: what makes no
+sense is refused with a line, or left out, and takes no more memory than the file and its
+symbols."""
 from __future__ import annotations
 
 import bisect
@@ -11,10 +12,20 @@ from ..call.errors import BAD_ELF, CompanionError
 from ..call.files import check_regular
 from ..call.text import clean
 
-LOADED, SYMBOL_TABLE = 1, 2                 # kinds of segments and sections
-LABEL, OBJECT, FUNCTION = 0, 1, 2           # kinds of symbols
-EXECUTABLE, WRITABLE = 1, 2                 # flags of a segment
-MOST_SEGMENTS, MOST_SYMBOLS, LONGEST_NAME, LARGEST_FILE = 1000, 1000000, 200, 1 << 29
+# Kinds of segments and sections
+LOADED = 1
+SYMBOL_TABLE = 2
+# Kinds of symbols
+LABEL = 0
+OBJECT = 1
+FUNCTION = 2
+# Flags of a segment
+EXECUTABLE = 1
+WRITABLE = 2
+MOST_SEGMENTS = 1000
+MOST_SYMBOLS = 1000000
+LONGEST_NAME = 200
+LARGEST_FILE = 1 << 29
 
 
 class Segment(NamedTuple):
@@ -57,7 +68,8 @@ class Elf:
         try:
             self.read_segments()
         except struct.error:
-            raise CompanionError(f"elf: the program headers of {name} end outside of the file", BAD_ELF)
+            raise CompanionError(f"elf: the program headers of {name} end outside of the file",
+                                 BAD_ELF)
         try:
             self.read_symbols()
         except struct.error:                # the program runs without its names
@@ -71,16 +83,20 @@ class Elf:
         self.headers_end: int = first + 32 * count
         view = memoryview(self.data)
         for i in range(min(count, MOST_SEGMENTS)):
-            kind, offset, address, _, in_file, in_memory, flags, _ = struct.unpack_from("<8I", self.data, first + 32 * i)
+            kind, offset, address, _, in_file, in_memory, flags, _ = struct.unpack_from(
+                "<8I", self.data, first + 32 * i)
             if kind == LOADED:
-                self.parts.append(Segment(address, in_memory, flags, view[offset:offset + min(in_file, in_memory)]))
+                self.parts.append(Segment(address, in_memory, flags,
+                                          view[offset:offset + min(in_file, in_memory)]))
         self.parts.sort(key=lambda part: part.address)
 
     def read_symbols(self) -> None:
-        left = MOST_SYMBOLS                     # so many entries are read, whether they name something or not
+        # So many entries are read, whether they name something or not
+        left = MOST_SYMBOLS
         first, = struct.unpack_from("<I", self.data, 32)
         count, = struct.unpack_from("<H", self.data, 48)
-        sections = [struct.unpack_from("<4xI8xIII", self.data, first + 40 * i) for i in range(count if first else 0)]
+        sections = [struct.unpack_from("<4xI8xIII", self.data, first + 40 * i)
+                    for i in range(count if first else 0)]
         for kind, offset, size, link in sections:
             if kind == SYMBOL_TABLE and link < len(sections):
                 count = min(size // 16, left)
@@ -91,20 +107,24 @@ class Elf:
     def read_table(self, at: int, count: int, names: int) -> None:
         for place in range(at, at + 16 * count, 16):
             name, value, size, info, _, section = struct.unpack_from("<IIIBBH", self.data, place)
-            word = self.data[names + name:names + name + LONGEST_NAME].partition(b"\0")[0].decode("latin-1")
+            word = self.data[names + name:names + name + LONGEST_NAME].partition(b"\0")[0].decode(
+                "latin-1")
             # $x and the like mark code for disassemblers; section 0 is of undefined symbols.
             if word and word[0] != "$" and section and info & 15 in (LABEL, OBJECT, FUNCTION):
                 self.symbols.append(Symbol(value, size, info & 15, clean(word)))
 
     def part_of(self, address: int) -> Segment | None:
-        return next((part for part in self.parts if part.address <= address < part.address + part.size), None)
+        return next((part for part in self.parts
+                     if part.address <= address < part.address + part.size), None)
 
     def bytes_at(self, address: int, size: int) -> bytes | None:
-        """The bytes that the file gives a place, zeros behind a segment's own bytes; None outside of one segment."""
+        """The bytes that the file gives a place, zeros behind a segment's own bytes; None outside
+        of one segment."""
         part = self.part_of(address)
         if part is None or address + size > part.address + part.size:
             return None
-        return bytes(part.body[address - part.address:address - part.address + size]).ljust(size, b"\0")
+        return bytes(part.body[address - part.address:address - part.address + size]).ljust(size,
+                                                                                            b"\0")
 
     def word(self, address: int) -> int | None:
         """The word at an address as the file gives it, or None outside of all segments."""
@@ -124,18 +144,21 @@ class Elf:
         return self.bytes_at(address, size) if self.is_read_only(address) else None
 
     def difference(self, other: Elf) -> str:
-        """What differs between the programs that both files load, or nothing. The file's own headers, which a stripped
-        copy has otherwise, can lie in a segment, and aren't compared."""
+        """What differs between the programs that both files load, or nothing. The file's own
+        headers, which a stripped copy has otherwise, can lie in a segment, and aren't compared."""
         if len(self.parts) != len(other.parts):
             return f"it loads {len(self.parts)} segments, not {len(other.parts)}"
         for at, (part, its) in enumerate(zip(self.parts, other.parts)):
             if part[:3] != its[:3]:
-                return (f"its segment {at + 1} is {part.size} bytes at {part.address:08x} with flags {part.flags}, "
+                return (f"its segment {at + 1} is {part.size} bytes at {part.address:08x} with "
+                        f"flags {part.flags}, "
                         f"not {its.size} bytes at {its.address:08x} with flags {its.flags}")
             begin = max(self.headers_in(part), other.headers_in(its))
             if part.body[begin:] != its.body[begin:]:
-                size = max(len(part.body), len(its.body))       # strip writes zeros at a segment's end that memory has there anyway
-                one, two = (bytes(each.body[begin:]).ljust(size - begin, b"\0") for each in (part, its))
+                # Strip writes zeros at a segment's end that memory has there anyway
+                size = max(len(part.body), len(its.body))
+                one, two = (bytes(each.body[begin:]).ljust(size - begin, b"\0")
+                            for each in (part, its))
                 first = next((i for i, (a, b) in enumerate(zip(one, two), begin) if a != b), None)
                 if first is not None:
                     return f"other bytes from {part.address + first:08x} on"
@@ -158,7 +181,8 @@ class Elf:
         return found.name + (f"+{address - found.address}" if address > found.address else "")
 
     def function_name(self, address: int) -> str:
-        """The function that an address of code is in, or else the label before it, or nothing: constants can follow functions."""
+        """The function that an address of code is in, or else the label before it, or nothing:
+        constants can follow functions."""
         found = last_before(self.functions, address)
         is_in = found and (not found.size or address < found.address + found.size)
         return found.name if found and is_in and self.is_code(address) else ""

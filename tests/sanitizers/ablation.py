@@ -3,10 +3,10 @@ good programs aren't silent?
 
     ablation.py FOLDER [PART..]     all parts, or those whose names begin with one of these words
 
-It tries the logs that tries.py recorded in FOLDER, but for those of more than MOST_ROWS rows, and the
-twins of tests/companions/lib/programs/memory_errors.c, each an error and its nearest good one.
-FOLDER/ablation.json gets the ends, of which tables.py makes a table. A check is tried on logs with a
-finding alone: without it there can be no more."""
+It tries the logs that tries.py recorded in FOLDER, but for those of more than MOST_ROWS rows, and
+the twins of tests/companions/lib/programs/memory_errors.c, each an error and its nearest good one.
+FOLDER/ablation.json gets the ends, of which tables.py makes a table. A check is tried on logs with
+a finding alone: without it there can be no more."""
 from __future__ import annotations
 
 import contextlib
@@ -19,7 +19,8 @@ from contextlib import closing
 from typing import Any, Callable, Dict, Iterator, List, NamedTuple, Tuple
 
 HERE = os.path.dirname(os.path.abspath(__file__))
-sys.path[:0] = [os.path.join(HERE, "..", *part) for part in (("..",), ("companions", "lib"), ("companions", "memory"))]
+sys.path[:0] = [os.path.join(HERE, "..", *part)
+                for part in (("..",), ("companions", "lib"), ("companions", "memory"))]
 from companion.memory import (                      # noqa: E402
     calls, facts, heap, judge, leaks, parts, pointers, program, run, stacks, sums, undefined, value)
 from companion.memory.answer import Answer          # noqa: E402
@@ -31,7 +32,8 @@ from companion.recording.places import Places       # noqa: E402
 import tries                                        # noqa: E402
 from memory_test import CASES, MemoryTest          # noqa: E402
 
-MOST_ROWS = 300000          # of a log: thirty runs of a longer one take minutes, and most tests are shorter
+# Of a log: thirty runs of a longer one take minutes, and most tests are shorter
+MOST_ROWS = 300000
 NEVER = re.compile(r"(?!)")
 NONE, NO, YES = (lambda *_given, told=told: told for told in (None, False, True))
 Patches = Tuple[Tuple[Any, str, Any], ...]
@@ -116,7 +118,8 @@ def logs_of_twins() -> Iterator[Tried]:
     for name, kind, *_ in CASES:
         for which in "bg":
             elf = case.elf_of(name)
-            test = tries.Test(f"twins/{name} {which}", "", kind if which == "b" else "", frozenset(), (), elf=elf)
+            test = tries.Test(f"twins/{name} {which}", "", kind if which == "b" else "",
+                              frozenset(), (), elf=elf)
             yield Tried(test, (), case.log(name, which), elf)
 
 
@@ -153,7 +156,8 @@ def main(folder: str, *begins: str) -> None:
         if load_log(tried.log).rows() <= MOST_ROWS:
             ends = dict(ends_of(tried, lambda name: name.startswith(begins or ("",))))
             found[tried.name] = ends
-            changed = (f"; without {name}: {end}" for name, end in ends.items() if end != ends[WHOLE])
+            changed = (f"; without {name}: {end}"
+                       for name, end in ends.items() if end != ends[WHOLE])
             print(tried.name, ends[WHOLE], *changed, flush=True)
     with open(os.path.join(folder, "ablation.json"), "w", encoding="utf-8") as file:
         json.dump({"checks": list(CHECKS), "rules": list(RULES), "ends": found}, file, indent=0)

@@ -1,4 +1,5 @@
-"""Writes the tables of bench/RESULTS.md that tries.py and ablation.py have results for: tables.py FOLDER.
+"""Writes the tables of bench/RESULTS.md that tries.py and ablation.py have results for: tables.py
+FOLDER.
 
 Each follows a line `<!-- tests/sanitizers/tables.py NAME -->`, up to the next empty line."""
 from __future__ import annotations
@@ -44,9 +45,10 @@ def errors(results: List[Result]) -> str:
         bad = [one for one in results if group_of(one) == name and one["kind"]]
         tried = ran(bad)
         ends = [[sum(one.get(by) == end for one in tried) for end in ENDS[:3]] for by in BY]
-        rows.append(row(name, len(tried), len(bad) - len(tried), *(" / ".join(map(str, each)) if any(each) else "-" for each in ends)))
-    return table("| tests with an error, named / another line / not told | tried | not built by all | `memory` | AddressSanitizer | memcheck |",
-                 rows)
+        rows.append(row(name, len(tried), len(bad) - len(tried),
+                        *(" / ".join(map(str, each)) if any(each) else "-" for each in ends)))
+    return (table("| tests with an error, named / another line / not told | tried | not built by "
+                  "all | `memory` | AddressSanitizer | memcheck |", rows))
 
 
 def good(results: List[Result]) -> str:
@@ -55,23 +57,29 @@ def good(results: List[Result]) -> str:
         without = [one for one in results if group_of(one).startswith(name) and not one["kind"]]
         tried = ran(without)
         rows.append(row(name, len(tried), len(without) - len(tried),
-                        *(sum(one[by] == "false" for one in tried) if all(by in one for one in tried) else "-" for by in BY)))
-    return table("| tests without an error | tried | not built by all | told by `memory` | AddressSanitizer | memcheck |", rows)
+                        *(sum(one[by] == "false" for one in tried)
+                          if all(by in one for one in tried) else "-" for by in BY)))
+    return table("| tests without an error | tried | not built by all | told by `memory` | "
+                 "AddressSanitizer | memcheck |", rows)
 
 
 def kinds(results: List[Result]) -> str:
     """The ablation by check: which tests a kind names, and which are named by no other."""
     has: Counter[str] = Counter(kind for one in results for kind in one.get("kinds", ()))
-    names: Counter[str] = Counter(kind for one in results if one["kind"] for kind in one.get("by", ()))
-    alone: Counter[str] = Counter(one["by"][0] for one in results if one["kind"] and len(one.get("by", ())) == 1)
+    names: Counter[str] = Counter(kind for one in results if one["kind"]
+                                  for kind in one.get("by", ()))
+    alone: Counter[str] = Counter(one["by"][0]
+                                  for one in results if one["kind"] and len(one.get("by", ())) == 1)
     return table("| kind | tests and programs with one | it names the line | no other kind does |",
-                 (row(f"`{kind}`", has[kind], names[kind], alone[kind]) for kind in sorted(has, key=lambda each: -has[each])))
+                 (row(f"`{kind}`", has[kind], names[kind], alone[kind])
+                  for kind in sorted(has, key=lambda each: -has[each])))
 
 
 def fresh(results: List[Result]) -> str:
-    return table("| program | `memory` tells first | by `memory` | by `why` | AddressSanitizer | memcheck |",
-                 (row(f"`{one['test'][6:-2]}`", one["told"].split("; ")[0] or "nothing", *(one[by] for by in ("memory", "why", *BY[1:])))
-                  for one in results if one["test"].startswith("fresh/")))
+    return table("| program | `memory` tells first | by `memory` | by `why` | AddressSanitizer | "
+                 "memcheck |", (row(f"`{one['test'][6:-2]}`", one["told"].split("; ")[0]
+                                    or "nothing", *(one[by] for by in ("memory", "why", *BY[1:])))
+                                for one in results if one["test"].startswith("fresh/")))
 
 
 def without(found: Result, which: str) -> str:
@@ -83,7 +91,8 @@ def without(found: Result, which: str) -> str:
                 for test, each in sorted(found["ends"].items()) if name in each]
         lost = [test for test, whole, end in ends if whole == "named" != end] or ["-"]
         false = [test for test, whole, end in ends if (whole, end) == ("silent", "false")] or ["-"]
-        rows.append((name, len(lost) - (lost == ["-"]), lost[0], len(false) - (false == ["-"]), false[0]))
+        rows.append((name, len(lost) - (lost == ["-"]), lost[0],
+                     len(false) - (false == ["-"]), false[0]))
     return table("| left out | errors not named then | as | good ones told then | as |",
                  (row(*each) for each in sorted(rows, key=lambda each: (-each[1], -each[3]))))
 

@@ -1,9 +1,11 @@
-"""Builds each test, records it, and holds what `memory` tells against what the test says: tries.py FOLDER [gcc | memcheck | fresh | crashes].
+"""Builds each test, records it, and holds what `memory` tells against what the test says: tries.py
+FOLDER [gcc | memcheck | fresh | crashes].
 
-A test of GCC says by dg-shouldfail that it has an error, and by dg-output its kind and the line of its first frame. One of
-memcheck has its errors in NAME.stderr.exp. Programs of fresh/ and of tests/crashes have a guilty line. A test that says of no error
-has to be silent. Beside it stands what AddressSanitizer and memcheck tell of the same test on the machine that this runs on (peers.py).
-FOLDER/results.json gets all, of which tables.py makes tables."""
+A test of GCC says by dg-shouldfail that it has an error, and by dg-output its kind and the line of
+its first frame. One of memcheck has its errors in NAME.stderr.exp. Programs of fresh/ and of
+tests/crashes have a guilty line. A test that says of no error has to be silent. Beside it stands
+what AddressSanitizer and memcheck tell of the same test on the machine that this runs on
+(peers.py). FOLDER/results.json gets all, of which tables.py makes tables."""
 from __future__ import annotations
 
 import json
@@ -18,18 +20,27 @@ import peers
 HERE = os.path.dirname(os.path.abspath(__file__))
 TOP = os.path.dirname(os.path.dirname(HERE))
 PROGRAM = os.environ.get("ZELKUMA_PROGRAM", os.path.join(TOP, "release", "zelkuma-x86_64-linux"))
-GCC = "riscv64-unknown-elf-gcc", "--specs=picolibc.specs", "-mabi=ilp32", "-mstrict-align", "-march=rv32im", "-g", "-w"
-LIMIT, PATIENCE_S, FIRST = "2000000", 120, 3
+GCC = ("riscv64-unknown-elf-gcc", "--specs=picolibc.specs", "-mabi=ilp32", "-mstrict-align",
+       "-march=rv32im", "-g", "-w")
+LIMIT = "2000000"
+PATIENCE_S = 120
+FIRST = 3
 INCLUDED = "valgrind", "valgrind/include", "valgrind/memcheck"
-ANY, LEAK = "an error", "memory-leak"           # ANY is of a kind that the test doesn't say
+# ANY is of a kind that the test doesn't say
+ANY = "an error"
+LEAK = "memory-leak"
 HEAD = re.compile(r"AddressSanitizer:? ([a-z-]+)")
 FRAME = re.compile(r"(?:#0|#1)[^\n]*?([\w+-]+\.c):(\d+)")
-OPTIONS = re.compile(r'dg-(?:additional-)?options "([^"]*)"\s*\}')      # (those of one target alone have more behind)
+# (those of one target alone have more behind)
+OPTIONS = re.compile(r'dg-(?:additional-)?options "([^"]*)"\s*\}')
 SETTINGS = re.compile(r'dg-set-target-env-var ASAN_OPTIONS "([^"]*)"')
-CRASHES_OF_MEMORY = "freed", "libc", "overrun", "underflow", "stack", "jump", "unwritten", "narrowed"    # their kinds in cases.txt
+# Their kinds in cases.txt
+CRASHES_OF_MEMORY = ("freed", "libc", "overrun", "underflow", "stack", "jump",
+                     "unwritten", "narrowed")
 POOL = "--alloc", "take", "--free", "give"      # of tests/crashes/heap.c
-MEMCHECK_KINDS = (("Invalid read", "invalid-access"), ("Invalid write", "invalid-access"), ("Invalid free", "invalid-free"),
-                  ("uninitialised", "use-of-uninitialized-value"), ("overlap", "memcpy-param-overlap"), ("definitely lost in", LEAK))
+MEMCHECK_KINDS = (("Invalid read", "invalid-access"), ("Invalid write", "invalid-access"),
+                  ("Invalid free", "invalid-free"), ("uninitialised", "use-of-uninitialized-value"),
+                  ("overlap", "memcpy-param-overlap"), ("definitely lost in", LEAK))
 
 
 class Test(NamedTuple):
@@ -64,18 +75,21 @@ def gcc_tests(folder: str) -> Iterator[Test]:
             told = " ".join(re.findall(r'dg-output "(.*?)" *(?:\{[^}]*\} *)?\}', text))
             kind = HEAD.search(told)
             # (some continue after an error, and end well)
-            is_bad = "dg-shouldfail" in text or kind is not None or "RITE of size" in told or "READ of size" in told
-            lines = frozenset(int(line) for file, line in FRAME.findall(told.replace("\\", "")) if file == name)
+            is_bad = ("dg-shouldfail" in text or kind is not None or "RITE of size" in told
+                      or "READ of size" in told)
+            lines = frozenset(int(line) for file, line in FRAME.findall(told.replace("\\", ""))
+                              if file == name)
             options = tuple(word for words in OPTIONS.findall(text) for word in words.split()
                             if word[:2] in ("-f", "-D") and "sanitize" not in word)
             settings = SETTINGS.search(text)
-            yield Test("gcc/" + name, path, (kind[1] if kind else ANY) if is_bad else "", lines, ("-O0", "-O2"), options,
-                       settings[1] if settings else "")
+            yield Test("gcc/" + name, path, (kind[1] if kind else ANY) if is_bad else "", lines,
+                       ("-O0", "-O2"), options, settings[1] if settings else "")
 
 
 def memcheck_tests(folder: str) -> Iterator[Test]:
     for name in sorted(os.listdir(folder)) if os.path.isdir(folder) else ():
-        path, said = os.path.join(folder, name), os.path.join(folder, name[:-2] + ".stderr.exp")
+        path = os.path.join(folder, name)
+        said = os.path.join(folder, name[:-2] + ".stderr.exp")
         if name.endswith(".c") and os.path.exists(said):
             text = text_of(said)
             kind = next((kind for words, kind in MEMCHECK_KINDS if words in text), "")
@@ -87,15 +101,17 @@ def fresh_tests(folder: str) -> Iterator[Test]:
     for line in text_of(os.path.join(folder, "lines.txt")).splitlines():
         name, *lines = line.split()
         if name != "#":
-            yield Test(f"fresh/{name}.c", os.path.join(folder, name + ".c"), ANY, frozenset(map(int, lines)), ("-O2",))
+            yield Test(f"fresh/{name}.c", os.path.join(folder, name + ".c"), ANY,
+                       frozenset(map(int, lines)), ("-O2",))
 
 
 def crash_tests(folder: str) -> Iterator[Test]:
     for line in text_of(os.path.join(folder, "cases.txt")).splitlines():
         if line.strip() and line[0] != "#":
             name, guilty, kind, _, harts, seed, limit, *_ = line.split()
-            yield Test(f"crashes/{name}.c", os.path.join(folder, name + ".c"), ANY if kind in CRASHES_OF_MEMORY else "",
-                       frozenset([int(guilty.split(":")[1])]), ("kept",), (), "", os.path.join(folder, name + ".elf"),
+            yield Test(f"crashes/{name}.c", os.path.join(folder, name + ".c"), ANY
+                       if kind in CRASHES_OF_MEMORY else "", frozenset([int(guilty.split(":")[1])]),
+                       ("kept",), (), "", os.path.join(folder, name + ".elf"),
                        ("--harts", harts, "--seed", seed, "--limit", limit))
 
 
@@ -105,11 +121,14 @@ def built(test: Test, folder: str, level: str) -> str:
         return test.elf
     elf = os.path.join(folder, test.name.replace("/", "-")[:-2] + level + ".elf")
     if not os.path.exists(elf):
-        parts = [os.path.join(TOP, "examples", "picolibc", name) for name in ("start.S", "machine.c")]
-        done = subprocess.run([*GCC, level, *test.options, *(f"-I{os.path.join(folder, part)}" for part in INCLUDED), "-static",
-                               "-nostartfiles", "-T", os.path.join(TOP, "examples", "picolibc", "program.ld"), "-Wl,--build-id=none",
-                               "-z", "max-page-size=4096", "-march=rv32ima", "-o", elf, *parts, test.source],
-                              stderr=subprocess.DEVNULL, stdout=subprocess.DEVNULL)
+        parts = [os.path.join(TOP, "examples", "picolibc", name)
+                 for name in ("start.S", "machine.c")]
+        done = subprocess.run(
+            [*GCC, level, *test.options, *(f"-I{os.path.join(folder, part)}" for part in INCLUDED),
+             "-static", "-nostartfiles", "-T",
+             os.path.join(TOP, "examples", "picolibc", "program.ld"), "-Wl,--build-id=none", "-z",
+             "max-page-size=4096", "-march=rv32ima", "-o", elf, *parts, test.source],
+            stderr=subprocess.DEVNULL, stdout=subprocess.DEVNULL)
         if done.returncode:
             return ""
     return elf
@@ -122,14 +141,16 @@ def end_of(test: Test, kinds: Sequence[str], lines: Iterable[int]) -> str:
     if test.lines:
         is_named = bool(test.lines.intersection(lines))
     else:
-        is_named = bool(kinds) and (test.kind == ANY or test.kind.split("-")[0] in {each.split("-")[0] for each in kinds})
+        is_named = bool(kinds) and (test.kind == ANY or test.kind.split("-")[0]
+                                    in {each.split("-")[0] for each in kinds})
     return "named" if is_named else "another line" if kinds else "not told"
 
 
 def companion(*words: str) -> Dict[str, Any]:
-    done = subprocess.run([sys.executable, os.path.join(TOP, "companion"), *words, "--json"], stdout=subprocess.PIPE,
-                          stderr=subprocess.PIPE, timeout=PATIENCE_S)
-    answer: Dict[str, Any] = json.loads(done.stdout) if done.returncode == 0 else {"error": done.stderr.decode().strip()}
+    done = subprocess.run([sys.executable, os.path.join(TOP, "companion"), *words, "--json"],
+                          stdout=subprocess.PIPE, stderr=subprocess.PIPE, timeout=PATIENCE_S)
+    answer: Dict[str, Any] = (json.loads(done.stdout) if done.returncode == 0
+                              else {"error": done.stderr.decode().strip()})
     return answer
 
 
@@ -137,13 +158,15 @@ def lines_in(found: Any) -> Iterator[int]:
     """All lines of an answer's part."""
     if isinstance(found, dict):
         yield from (value for key, value in found.items() if key == "line" and value)
-    for each in found.values() if isinstance(found, dict) else found if isinstance(found, list) else ():
+    for each in (found.values() if isinstance(found, dict)
+                 else found if isinstance(found, list) else ()):
         yield from lines_in(each)
 
 
 def by_memory(test: Test, lines: frozenset[int], log: str, elf: str) -> Dict[str, Any]:
     """What came of a test by `memory`, of which these lines are right."""
-    answer = companion("memory", log, elf, *(["--leaks"] if test.kind == LEAK else []), *(POOL if test.elf else ()))
+    answer = companion("memory", log, elf, *(["--leaks"] if test.kind == LEAK else []),
+                       *(POOL if test.elf else ()))
     if "error" in answer and test.elf:          # it has no such pool
         answer = companion("memory", log, elf)
     if "error" in answer:
@@ -156,12 +179,14 @@ def judged(test: Test, lines: Iterable[int], answer: Dict[str, Any]) -> Dict[str
     guilty line each line of a finding counts, as a reader sees it."""
     lost = [{"kind": LEAK, "calls": each["calls"]} for each in answer["leaks"] if each["unreached"]]
     found: List[Dict[str, Any]] = (answer["findings"] + lost)[:FIRST]
-    said = "; ".join(f"{each['kind']} {each['calls'][0]['line'] if each['calls'] else '?'}" for each in found)
+    said = "; ".join(f"{each['kind']} {each['calls'][0]['line'] if each['calls'] else '?'}"
+                     for each in found)
     has_guilty = test.name.startswith(("fresh/", "crashes/"))
-    near = [set(lines_in(each) if has_guilty else (line["line"] for line in each["calls"][:2])) for each in found]
+    near = [set(lines_in(each) if has_guilty else (line["line"] for line in each["calls"][:2]))
+            for each in found]
     by = sorted({each["kind"] for each, told in zip(found, near) if told.intersection(lines)})
-    return {"memory": end_of(test, [each["kind"] for each in found], set().union(*near)), "told": said, "by": by,
-            "kinds": sorted({each["kind"] for each in found})}
+    return {"memory": end_of(test, [each["kind"] for each in found], set().union(*near)),
+            "told": said, "by": by, "kinds": sorted({each["kind"] for each in found})}
 
 
 def by_why(test: Test, log: str, elf: str) -> str:
@@ -173,8 +198,9 @@ def by_why(test: Test, log: str, elf: str) -> str:
 def tried(test: Test, lines: frozenset[int], folder: str, elf: str) -> Dict[str, Any]:
     """What came of a test by `memory`, and of a fresh one by `why`."""
     log = log_of(folder, elf)
-    subprocess.run([PROGRAM, "record", "--format", "2", *test.recorded, elf, log, log[:-4] + ".book"],
-                   stdout=subprocess.DEVNULL, stderr=subprocess.DEVNULL, timeout=PATIENCE_S)
+    subprocess.run([PROGRAM, "record", "--format", "2", *test.recorded, elf, log,
+                    log[:-4] + ".book"], stdout=subprocess.DEVNULL,
+                   stderr=subprocess.DEVNULL, timeout=PATIENCE_S)
     if not os.path.exists(log):
         return {"memory": "isn't recorded"}
     found = by_memory(test, lines, log, elf)
@@ -190,7 +216,8 @@ def log_of(folder: str, elf: str) -> str:
 def tests_in(folder: str) -> List[Test]:
     memcheck = os.path.join(folder, "valgrind", "memcheck", "tests")
     return [*gcc_tests(os.path.join(folder, "gcc")), *memcheck_tests(memcheck),
-            *fresh_tests(os.path.join(HERE, "fresh")), *crash_tests(os.path.join(TOP, "tests", "crashes"))]
+            *fresh_tests(os.path.join(HERE, "fresh")),
+            *crash_tests(os.path.join(TOP, "tests", "crashes"))]
 
 
 def results(folder: str, only: str) -> Iterator[Dict[str, Any]]:
@@ -203,8 +230,10 @@ def results(folder: str, only: str) -> Iterator[Dict[str, Any]]:
                 ours = tried(test, lines, folder, elf) if elf else {"memory": "doesn't build"}
             except subprocess.TimeoutExpired:
                 ours = {"memory": "takes too long"}
-            ends = {name: end_of(test, *each) if each else "doesn't build" for name, each in told.items()}
-            yield {"test": test.name, "level": level, "kind": test.kind, "lines": sorted(lines), **ours, **ends}
+            ends = {name: end_of(test, *each) if each else "doesn't build"
+                    for name, each in told.items()}
+            yield {"test": test.name, "level": level, "kind": test.kind,
+                   "lines": sorted(lines), **ours, **ends}
 
 
 def lines_by(told: peers.Told) -> List[int]:
@@ -213,7 +242,8 @@ def lines_by(told: peers.Told) -> List[int]:
 
 
 def by_peers(test: Test, folder: str, level: str) -> Dict[str, peers.Told]:
-    """(memcheck takes longest by far, and GCC's tests are mostly of stacks and globals, which it can't see.)"""
+    """(memcheck takes longest by far, and GCC's tests are mostly of stacks and globals, which it
+    can't see.)"""
     told = {"AddressSanitizer": peers.by_sanitizer(test, folder, level)}
     if not test.name.startswith("gcc/"):
         told["memcheck"] = peers.by_memcheck(test, folder, level)
