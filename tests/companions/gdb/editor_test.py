@@ -11,7 +11,7 @@ import case
 import common
 
 GDB = "gdb-multiarch"
-BOUND = 60
+BOUND = 300                 # seconds after which a process hangs: others may have the processors
 
 
 class Editor:

@@ -90,6 +90,7 @@ class Client:
 
     def close(self):
         """Leaves, and returns the status."""
+        self._acknowledges = False  # the bridge ends as it answers, and nobody is there to hear it
         assert self("D") == "OK"
         self.process.stdin.close()
         return self.process.wait()

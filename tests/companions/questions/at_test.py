@@ -148,12 +148,14 @@ class AtTest(case.Case):
         with Recording(log, elf) as run:
             found = run.at_line("heap.c:75", "text[0]", "*text", condition="text[0] == 'r'", last=2)
         self.assertEqual(found[-1], (0, 61888, {"text[0]": "114 'r'", "*text": "114 'r'"}))
-        done = subprocess.run([GDB, "-nx", "-q", "-batch", "-ex", "target remote | "
-                               f"{sys.executable} {common.COMPANION} gdb {log} {elf}", "-ex",
-                               "monitor at heap.c:75 'text[0] + 1'", "-ex", "monitor at", elf], stdout=subprocess.PIPE,
-                              stderr=subprocess.STDOUT, check=False).stdout.decode()
-        self.assertIn(self.says("at", log, elf, "heap.c:75", "text[0] + 1"), done)
-        self.assertRegex(done, r"at 0 of \d+ known")
+        bridge = f"{sys.executable} {common.COMPANION} gdb {log} {elf}"
+        done = subprocess.run([GDB, "-nx", "-q", "-batch", "-iex", "set remotetimeout 300",
+                               "-ex", f"target remote | {bridge}", "-ex",
+                               "monitor at heap.c:75 'text[0] + 1'", "-ex", "monitor at", elf],
+                              stdout=subprocess.PIPE, stderr=subprocess.STDOUT, check=False)
+        said = done.stdout.decode()
+        self.assertIn(self.says("at", log, elf, "heap.c:75", "text[0] + 1"), said)
+        self.assertRegex(said, r"at 0 of \d+ known")
 
     def test_refusals(self):
         log, elf = self.recorded("heap")
