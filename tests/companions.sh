@@ -12,6 +12,7 @@ export ZELKUMA_PROGRAM
 type -P python3 >/dev/null || { echo "skipped: python3 isn't here" && exit 77; }
 work=$(mktemp -d)
 trap 'rm -rf "$work"' EXIT
+. "$top/tests/compiled.sh" "$work/compiled"
 passed=0 failed=0 skipped=0
 
 # Runs the tests of a file, and keeps what they say. (A job in the background begins with signals ignored.)

@@ -102,6 +102,7 @@ cd "$top" || exit 1
 find_missing tests >/dev/null
 [ -z "$setup" ] || set_up
 tell_missing
+. tests/compiled.sh "$work/compiled"
 trap 'stop_all 1' HUP
 trap 'stop_all 2' INT
 trap 'stop_all 15' TERM

@@ -4,10 +4,10 @@
 tree=$work/tree
 mkdir -p "$tree/tools" "$tree/tests" "$work/few" "$work/all"
 cp "$top"/tools/{doctor.sh,tools.txt} "$tree/tools"
-cp "$top"/tests/{quick.sh,fresh_start.sh} "$tree/tests"
+cp "$top"/tests/{quick.sh,fresh_start.sh,compiled.sh} "$tree/tests"
 printf '#!/bin/bash\n' >"$work/program"
 chmod +x "$work/program"
-mapfile -t scripts < <(grep -oE 'tests/[a-z_]+(/[a-z_]+)?\.(sh|py)' "$tree/tests/quick.sh" | grep -vE 'quick\.sh|release|fresh_start' | sort -u)
+mapfile -t scripts < <(grep -oE 'tests/[a-z_]+(/[a-z_]+)?\.(sh|py)' "$tree/tests/quick.sh" | grep -vE 'quick\.sh|release|fresh_start|compiled' | sort -u)
 scripts+=(tests/oracle/quick.sh)
 what="the scripts"
 [ "${#scripts[@]}" -gt 20 ] || fails "there are ${#scripts[@]} scripts"
