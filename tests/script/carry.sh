@@ -7,6 +7,7 @@
 program=$(readlink -f -- "${1:?the words are PROGRAM}")
 elf=$top/examples/wild_store.elf
 python=$(type -P python3) || skips "calls of companions: python3 isn't here"
+unset PYTHONDONTWRITEBYTECODE PYTHONPYCACHEPREFIX # python writes beside modules what it compiles, unless the script says otherwise
 
 # Sources of which to lay: with a companion that tells how it was called, and with what isn't to be laid.
 sources=$work/sources
@@ -241,7 +242,8 @@ has err "zelkuma: uninstall: '$older'/lib/zelkuma stays: it has files that insta
 [ "$(files_in "$older" | xargs)" = "bin/other lib/zelkuma/mine" ] || fails "it left $(files_in "$older" | xargs)"
 runs 3 "$sources/zelkuma" uninstall "$older"
 has err "there is no zelkuma under"
-runs 0 "$sources/zelkuma" uninstall "$work/no/where/"
+POSIXLY_CORRECT=1 runs 0 "$sources/zelkuma" uninstall "$work/no/where/"
+[ ! -s "$work/err" ] || fails "it says something"
 laid_under "$work/no/where" | sort >"$work/wanted"
 sort "$work/out" >"$work/files"
 equals "$work/wanted" "$work/files"
@@ -381,6 +383,9 @@ packs one 022
 packs other/place 077
 package=$work/one/zelkuma_$(<"$top/VERSION")_amd64.deb
 equals "$package" "$work/other/place/${package##*/}"
+printf x >>"$work/one/sources/release/zelkuma-x86_64-linux"
+runs 2 make -s -C "$work/one/sources" -f debian/rules override_dh_auto_install
+has out "zelkuma-x86_64-linux: FAILED"
 runs 0 dpkg-deb --field "$package" Package Version Architecture Depends Recommends
 for line in "Package: zelkuma" "Version: $(<"$top/VERSION")" "Architecture: amd64" "Depends: libc6 (>= 2.34)" \
     "Recommends: python3 (>= 3.8), gdb-multiarch, binutils-riscv64-unknown-elf"; do

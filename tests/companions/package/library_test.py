@@ -17,6 +17,16 @@ INT = {"kind": "int", "name": "int", "size": 4, "signed": True}
 CHAR = {"kind": "int", "name": "char", "size": 1, "signed": False}
 
 
+class Copied(bytes):
+    """Bytes that count how many of them are copied."""
+    count = 0
+
+    def __getitem__(self, at):
+        found = super().__getitem__(at)
+        self.count += len(found) if isinstance(at, slice) else 0
+        return found
+
+
 class LibraryTest(case.Case):
     def test_states_are_what_the_rows_before_wrote(self):
         log, elf = self.record("filters", "--seed", "10", "--harts", "4"), self.elf("filters")
@@ -67,6 +77,13 @@ class LibraryTest(case.Case):
                                       b"\xfe\xff\xff\xff\x0e\0\0\0abc\0" + b"\1\0\0\0\0\0\0\0xyz\0"),
                          [{"a": -2, "b": -1, "c": b"abc\0"}, {"a": 1, "b": 0, "c": b"xyz\0"}])
         self.assertEqual(python_value({"kind": "array", "name": "", "size": 8, "count": 2, "first": 0, "of": INT}, b"\1\0\0\0\2\0\0\0"), [1, 2])
+
+    def test_an_array_is_copied_once(self):
+        """Not what is left of it for each of its parts."""
+        data = Copied(4000)
+        numbers = {"kind": "array", "name": "", "size": 4000, "count": 1000, "first": 0, "of": INT}
+        self.assertEqual(python_value(numbers, data), [0] * 1000)
+        self.assertEqual(data.count, 4000)
 
     def test_an_installed_program_is_found(self):
         """By the package of the installation, and by a copy elsewhere if the command zelkuma is there."""

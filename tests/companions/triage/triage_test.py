@@ -227,11 +227,13 @@ class TriageTest(case.Case):
 
     def test_refusals(self):
         log = self.fleet.names[0]
+        os.mkfifo(path("pipe"))
         for what, status, words in (
                 ("no --elfs", 2, [self.fleet.logs]), ("no folder", 2, ["--elfs", self.fleet.elfs]),
                 ("no such folder", 4, [path("nowhere"), "--elfs", self.fleet.elfs]),
                 ("no such --elfs", 4, [self.fleet.logs, "--elfs", path("nowhere")]),
                 ("a device for --elfs", 3, [self.fleet.logs, "--elfs", "/dev/null"]),
+                ("a pipe for --elfs", 3, [self.fleet.logs, "--elfs", path("pipe")]),
                 ("no log", 4, [CRASHES, "--elfs", self.fleet.elfs]),
                 ("a log as the answer", 2, [self.fleet.logs, "--elfs", self.fleet.elfs, "--json", log]),
                 ("an ELF file as the page", 2, [self.fleet.logs, "--elfs", self.fleet.elfs, "--html", common.example("sort")])):
