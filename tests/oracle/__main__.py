@@ -17,7 +17,7 @@ import time
 from typing import Callable, Dict, List
 
 from . import building
-from .asking import Asked, Server, Tally
+from .asking import Asked, Tally
 from .cases import CASES, Case
 from .machine import Machine
 from .of_calls import ask_calls
@@ -36,6 +36,7 @@ from .of_same import ask_same
 from .of_shrink import ask_shrink_seldom
 from .of_why import ask_why
 from .program import Program
+from .server import Server
 
 TOP = os.path.dirname(os.path.dirname(os.path.dirname(os.path.abspath(__file__))))
 WORDS: Dict[str, Callable[[Asked, random.Random], None]] = {

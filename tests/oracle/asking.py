@@ -2,9 +2,6 @@
 from __future__ import annotations
 
 import json
-import os
-import subprocess
-import sys
 from collections import Counter
 from dataclasses import dataclass, field
 from typing import Any, Dict, List, NamedTuple, Optional, Sequence, Tuple
@@ -12,9 +9,9 @@ from typing import Any, Dict, List, NamedTuple, Optional, Sequence, Tuple
 from .building import Recorded
 from .machine import Machine
 from .program import Program
+from .server import Answer, Server
 
 MOST_KEPT = 2               # differences of a kind that are told whole, of each recording
-HERE = os.path.dirname(os.path.abspath(__file__))
 LONGEST = 600               # letters of an answer that are told
 # The processor seconds that an answer may take: a start with gdb, and more for each row, ten times what it needs.
 PATIENCE_S, ROWS_A_SECOND = 10, 20000
@@ -38,40 +35,6 @@ class Tally:
     compared: Counter[str] = field(default_factory=Counter)
     differing: Counter[str] = field(default_factory=Counter)
     kept: List[Difference] = field(default_factory=list)
-
-
-class Answer(NamedTuple):
-    """A companion's answer; a status below 0 is the signal that ended it."""
-    returncode: int
-    stdout: str
-    stderr: str
-
-
-class Server:
-    """The companions of a checkout, loaded once."""
-
-    def __init__(self, project: str, folder: str) -> None:
-        self.project, self.out, self.err = project, os.path.join(folder, "out"), os.path.join(folder, "err")
-        self.process = subprocess.Popen([sys.executable, "-B", os.path.join(HERE, "server.py"), project], stdin=subprocess.PIPE,
-                                        stdout=subprocess.PIPE, text=True)
-
-    def run(self, words: Sequence[str], environment: Dict[str, str], seconds: int) -> Answer:
-        assert self.process.stdin and self.process.stdout
-        call = {"words": words, "environment": environment, "seconds": seconds, "out": self.out, "err": self.err}
-        self.process.stdin.write(json.dumps(call) + "\n")
-        self.process.stdin.flush()
-        status = int(self.process.stdout.readline())
-        said = []
-        for name in (self.out, self.err):
-            with open(name, encoding="utf-8", errors="replace") as file:
-                said.append(file.read())
-        return Answer(status, *said)
-
-    def close(self) -> None:
-        if self.process.stdin and self.process.stdout:
-            self.process.stdin.close()
-            self.process.wait()
-            self.process.stdout.close()
 
 
 @dataclass

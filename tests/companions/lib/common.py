@@ -1,6 +1,7 @@
 """What the tests of the companions share: recordings, and calls of companions.
 
 The program is the one that the companions find. case.py has the class of tests on top of these."""
+import atexit
 import os
 import shutil
 import subprocess
@@ -14,10 +15,13 @@ sys.path.insert(0, TOP)
 from companion.call.program import path as program_path      # noqa: E402
 from companion.recording import naming                        # noqa: E402
 from companion.recording.places import TOOLS                  # noqa: E402
+from tests.oracle.server import Server                        # noqa: E402
 PROGRAM = program_path()
 EXAMPLES = os.path.join(TOP, "examples")
 CRASHES = os.path.join(TOP, "tests", "crashes")
 scratch = tempfile.TemporaryDirectory()
+servers = []                # that nobody asks just now
+OF_PYTHON = "PYTHON", "LC_", "LANG"
 os.environ["ZELKUMA_PROGRAM"] = PROGRAM
 
 
@@ -137,13 +141,29 @@ def rows(log, elf):
     return [line.split(" ") for line in output("joint", log, elf).decode().split("\n") if line[:1].isdigit()]
 
 
-def companion(*words, given=b"", environment=None, bound=None, is_whole=False):
+def companion(*words, given=b"", environment=None, bound=None, is_whole=False, starts=False):
     """(status, output, err) of a companion, which has to end within so many seconds. Most examples are kept stripped: unless err is
-    to be whole, what it says of that is left out."""
-    done = subprocess.run([sys.executable, COMPANION] + list(words), input=given, stdout=subprocess.PIPE, stderr=subprocess.PIPE,
-                          env=dict(os.environ, **(environment or {})), timeout=bound)
-    err = done.stderr.decode("utf-8", "replace")
-    return done.returncode, done.stdout.decode("utf-8", "replace"), err if is_whole else without_lack(err)
+    to be whole, what it says of that is left out. With `starts`, or for what python reads as it starts, python is started."""
+    environment = environment or {}
+    if starts or any(name.startswith(OF_PYTHON) for name in environment):
+        done = subprocess.run([sys.executable, COMPANION, *words], input=given, stdout=subprocess.PIPE, stderr=subprocess.PIPE,
+                              env={**os.environ, **environment}, timeout=bound, check=False)
+        status, out, err = done.returncode, *(said.decode("utf-8", "replace") for said in (done.stdout, done.stderr))
+    else:
+        status, out, err = loaded(words, environment, given, bound)
+    return status, out, err if is_whole else without_lack(err)
+
+
+def loaded(words, environment, given, bound):
+    """The same of a process that has loaded all companions. A test may ask in several threads."""
+    try:
+        server = servers.pop()
+    except IndexError:
+        server = Server(TOP, tempfile.mkdtemp(dir=scratch.name))
+        atexit.register(server.close)
+    answer = server.run(words, environment, given=given, bound=bound)
+    servers.append(server)
+    return answer
 
 
 def without_lack(err):
