@@ -81,11 +81,12 @@ class Calls:
 
 
 def case_each_signal_ends_all(recordings):
-    """It comes to the companion alone, as from `timeout` or a job's end."""
+    """It comes to the companion alone, as from `timeout` or a job's end. The first word gets each, the others one in turn."""
     calls = Calls(recordings, "signals")
     calls.program("")
-    for words in calls.words():
-        for number, status in STATUSES.items():
+    every = list(STATUSES.items())
+    for place, words in enumerate(calls.words()):
+        for number, status in [every[place % 3]] if place else every:
             process = calls.start(*words)
             began = below(process.pid)
             process.send_signal(number)
@@ -307,8 +308,8 @@ def seconds_after(words, when):
 
 def case_ctrl_c_ends_work_at_once(recordings):
     """Wherever it comes, and whatever the companion is doing."""
-    for words in Work(recordings).words():
-        for when in WHEN:
+    for place, words in enumerate(Work(recordings).words()):
+        for when in WHEN[place % 2::2]:
             tries = []
             while len(tries) < 3 and not any(seconds <= AT_ONCE for seconds, _, _ in tries):
                 tries.append(seconds_after(words, when))

@@ -1,4 +1,5 @@
 """How a companion ends whatever its streams, its environment and Ctrl-C do: a line and a status, never a traceback."""
+import itertools
 import os
 import pty
 import signal
@@ -138,10 +139,10 @@ class InterruptTest(case.Case):
         options = ("--harts", "2", "--seed", "1", "--limit", "300000", "--log-size", "16777216")
         log, elf = self.record("counter", *options), self.elf("counter")
         out = [common.path("interrupted.log"), common.path("interrupted.book")]
-        seen = []
+        seen, of_words = [], itertools.cycle(((0, 0.1), (0.02, 0.3)))
         for words in (("why", log, elf), ("race", log, elf), ("view", log, elf), ("bucket", log, elf), ("gdb", log, elf),
                       ("names", self.crash("hang")[1]), ("seeds", "0", "1000000", "--", elf, *out)):
-            for delay in (0, 0.02, 0.1, 0.3):
+            for delay in next(of_words):
                 process = self.started(*words)
                 time.sleep(delay)
                 if process.poll() is None:
