@@ -19,11 +19,11 @@ CHAR = {"kind": "int", "name": "char", "size": 1, "signed": False}
 
 class Copied(bytes):
     """Bytes that count how many of them are copied."""
-    count = 0
+    copied = 0
 
     def __getitem__(self, at):
         found = super().__getitem__(at)
-        self.count += len(found) if isinstance(at, slice) else 0
+        self.copied += len(found) if isinstance(at, slice) else 0
         return found
 
 
@@ -83,7 +83,7 @@ class LibraryTest(case.Case):
         data = Copied(4000)
         numbers = {"kind": "array", "name": "", "size": 4000, "count": 1000, "first": 0, "of": INT}
         self.assertEqual(python_value(numbers, data), [0] * 1000)
-        self.assertEqual(data.count, 4000)
+        self.assertEqual(data.copied, 4000)
 
     def test_an_installed_program_is_found(self):
         """By the package of the installation, and by a copy elsewhere if the command zelkuma is there."""
