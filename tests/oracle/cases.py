@@ -139,6 +139,8 @@ CASES = [
     Case("blocks", ["-O1", G, "-fno-builtin", building.HEAP], [], all_of(ask_memory)),
     Case("harts", ["-O2", G], ["--limit", "8000", "--log-size", "16384"],
          all_of(ask_race, ask_history, ask_core), harts=4),
+    Case("late", [], "--seed 3 --limit 20000 --interval 3000 --log-size 16384".split(), all_of(ask_history, times=6), harts=4,
+         elf="examples/counter.elf"),
     Case("switches", [], ["--seed", "10"], ask_shrink, harts=4, elf="examples/filters.elf"),
     Case("seldom", ["-O1", G], ["--limit", "2000000"], history("rare"), is_big=True),
     Case("sift", ["-O2", G], ["--limit", "2000000"], calls("sift_down"), is_big=True),
