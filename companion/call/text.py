@@ -6,8 +6,9 @@ from typing import Sequence
 
 def clean(text: str) -> str:
     """The text without control characters: a name in an ELF can hold any bytes."""
-    return text if text.isprintable() else "".join(c if c.isprintable()
-                                                   else " " if c == "\t" else "?" for c in text)
+    if text.isprintable():
+        return text
+    return "".join(c if c.isprintable() else "?" for c in text.replace("\t", " "))
 
 
 def number(value: int) -> str:
@@ -15,7 +16,8 @@ def number(value: int) -> str:
 
 
 def counted(value: int, noun: str) -> str:
-    return f"{number(value)} {noun}{'' if value == 1 else 'es' if noun.endswith('ch') else 's'}"
+    ending = "es" if noun.endswith("ch") else "s"
+    return f"{number(value)} {noun}{'' if value == 1 else ending}"
 
 
 def short(text: str, width: int = 92) -> str:

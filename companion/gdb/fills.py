@@ -85,4 +85,5 @@ class Fills:
                 begin, stop = (bisect.bisect_left(places, place) for place in (start, end))
                 if begin < stop:
                     found.append(places[stop - 1 if last else begin])
-        return (max(found) if last else min(found)) if found else None
+        best = max if last else min
+        return best(found) if found else None

@@ -80,7 +80,8 @@ class Points:
             reached = start < place < end if last else start < place <= end
             if pc in self.breaks and reached and only in (None, hart):
                 hits.append(Hit(place, hart))
-        return (max(hits) if last else min(hits)) if hits else None
+        best = max if last else min
+        return best(hits) if hits else None
 
     def patterns(self, watch: Watch, only: Optional[int]) -> Iterator[Pattern]:
         def accepts(line: bytes) -> bool:
@@ -112,7 +113,8 @@ class Points:
         found = [self.steps.lines.find(patterns, start, end, last)]
         found += [self.next_fill(watch, start, end, last, only) for watch in self.watches]
         places = [place for place in found if place is not None]
-        return (max(places) if last else min(places)) if places else None
+        best = max if last else min
+        return best(places) if places else None
 
     def met_at(self, place: int) -> list[Watch]:
         """The watchpoints that the row at a place meets."""

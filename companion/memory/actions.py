@@ -63,9 +63,10 @@ class Actions(Dict[bytes, Act]):
                 call(hart, told, row)
                 return True
             found: Act = take
+        elif one.kind == ALU and one.rd == SP:
+            found = self.sums.of_stack_pointer(one)
         elif one.kind == ALU:
-            found = (self.sums.of_stack_pointer(one) if one.rd == SP
-                     else self.sums.of_sum(one) if one.rd else nothing)
+            found = self.sums.of_sum(one) if one.rd else nothing
         else:
             found = self.makers[one.kind](one) if one.kind in self.makers else nothing
         if one.pc == self.checks.copies:

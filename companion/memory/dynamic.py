@@ -101,8 +101,9 @@ def pointer_to(facts: Facts, one: Operation) -> Tuple[int, int]:
         following = facts.operations.get(pc)
         if following is None or following.kind in (BRANCH, JUMP):
             break
-        bits = (following.imm if following.name == "srli"
-                else (-following.imm).bit_length() - 1 if following.name == "andi" else 0)
+        bits = following.imm if following.name == "srli" else 0
+        if following.name == "andi":
+            bits = (-following.imm).bit_length() - 1
         if following.rs1 == register and following.name == "addi" and following.rd == register:
             added += following.imm
         elif following.rs1 == register and bits > 1 and (following.name == "srli"

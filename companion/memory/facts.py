@@ -218,8 +218,9 @@ class Flow:
         elif one.rd:
             # (behind memory that a function asks for on its stack the frame's places aren't told by
             # sp)
-            known = (None if one.takes_memory else self.facts.result(one) if one.kind == ALU
-                     else self.loaded(one, state))
+            known = None
+            if not one.takes_memory:
+                known = self.facts.result(one) if one.kind == ALU else self.loaded(one, state)
             put(state, one.rd, known)
 
     def loaded(self, one: Operation, state: State) -> Optional[Value]:

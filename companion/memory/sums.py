@@ -180,7 +180,10 @@ class Sums:
         def add(row: bytes) -> None:
             x = tags[rs1]
             y = tags[rs2]
-            tags[rd] = y if x is None else x if y is None else None
+            if x is None:
+                tags[rd] = y
+            else:
+                tags[rd] = x if y is None else None
             rows[rd] = row
 
         def subtract(row: bytes) -> None:
@@ -223,7 +226,10 @@ class Sums:
             kept[rd] = kept[pointer] if was_indexed else rows[pointer]
             x = tags[rs1]
             y = tags[rs2]
-            tags[rd] = y if x is None else x if y is None else None
+            if x is None:
+                tags[rd] = y
+            else:
+                tags[rd] = x if y is None else None
             rows[rd] = row
         return act
 

@@ -52,8 +52,9 @@ def result_bits(hart: Hart, one: Operation, x: int, y: int) -> int:
     by = hart.value(one.rs2)
     if name in ("sll", "srl", "sra") and not y and by is not None:
         by &= 31
-        return (x << by & FULL if name == "sll" else x >> by if name == "srl"
-                else signed_shift(x, by))
+        if name == "sll":
+            return x << by & FULL
+        return x >> by if name == "srl" else signed_shift(x, by)
     return 1 if name in COMPARING else FULL
 
 
@@ -62,7 +63,10 @@ def masked_bits(hart: Hart, one: Operation, x: int, y: int) -> int:
     values = []
     for register in (one.rs1, one.rs2):
         value = hart.value(register)
-        values.append(FULL if value is None else value if one.name == "and" else ~value)
+        if value is None:
+            values.append(FULL)
+        else:
+            values.append(value if one.name == "and" else ~value)
     return (x | y) & (x | values[0]) & (y | values[1]) & FULL
 
 

@@ -63,7 +63,7 @@ def is_error(result: Result) -> bool:
 def outcome(result: Result) -> str:
     told: List[str] = lines(result.found) if result.found else [result.refused]
     text = cleaned("\n".join(told))
-    kind = "failure" if result.is_failed else "error" if result.is_error else ""
-    if not kind:
+    if not result.is_failed and not result.is_error:
         return f"<system-out>{text}</system-out>"
+    kind = "failure" if result.is_failed else "error"
     return f"<{kind} message={quoted(result.text())}>{text}</{kind}>"

@@ -242,8 +242,9 @@ def status_of(results: Sequence[Result]) -> int:
 def main(words: List[str]) -> int:
     known = {**dict.fromkeys(VALUES, True), "--json": False}
     names, given = parse(words, known, range(1, IN_LOG + 1), HELP.form)
-    wanted = (1 if "--elfs" in given
-              else IN_LOG if any(option in given for option in OF_LOG) else len(names))
+    wanted = IN_LOG if any(option in given for option in OF_LOG) else len(names)
+    if "--elfs" in given:
+        wanted = 1
     if (len(names) != wanted or wanted not in (IN_LOG, IN_FILE, 1)
             or (wanted == 1 and "--elfs" not in given)):
         raise CompanionError(f"{len(names)} names are given; the words are: {HELP.form}", REFUSED)

@@ -147,8 +147,9 @@ class Run:
         take_together(saved)                    # first: nobody may read what is passed on
         self.pass_on(step)
         streams.say(f"{' and '.join(place.name for place, _ in saved)}: {summary}")
-        status = (TIMED_OUT if step.status == LIMIT
-                  else exit_code(self.log.path) or 0 if step.status == DONE else FAULTED)
+        status = TIMED_OUT if step.status == LIMIT else FAULTED
+        if step.status == DONE:
+            status = exit_code(self.log.path) or 0
         if status:
             streams.show("".join(line + "\n" for line in brief_of(self.log.name, self.elf)))
             streams.say(f"`zelkuma why {self.log.name} {self.elf}` tells more")

@@ -3,6 +3,7 @@ from __future__ import annotations
 
 import contextlib
 import os
+import re
 from typing import Mapping, Optional, Sequence
 
 from ..call import streams
@@ -81,8 +82,7 @@ def split(words: list[str]) -> tuple[list[str], list[str]]:
     """The words before the first `--`, with -j as an option of its full name, and those behind
     it."""
     at = words.index("--") if "--" in words else len(words)
-    own = ["--jobs" if word == "-j" else "--jobs=" + word[2:] if word[:2] == "-j" else word
-           for word in words[:at]]
+    own = ["--jobs" if word == "-j" else re.sub("^-j", "--jobs=", word) for word in words[:at]]
     return own, words[at + 1:]
 
 
@@ -277,7 +277,7 @@ def main(words: list[str]) -> int:
     numbers = numbers_of(low, high, options.get("--part", "1/1"))
     wanted = until_of(options)
     record = RecordWords(rest, options.get("--all", ""))
-    shrinks = "--compare" if "--compare" in options else "--shrink" if "--shrink" in options else ""
+    shrinks = next((option for option in ("--compare", "--shrink") if option in options), "")
     if shrinks:
         check_shrinks(shrinks, record, wanted)
     good = goods_of(record) if "--compare" in options else []

@@ -395,7 +395,9 @@ def said_value(asked: Asked, kind: Type, value: Optional[int], text: str = "") -
         return f"{value:08x}"
     said = value_text(Leaf("", 0, kind),
                       value.to_bytes(8, "little")[:max(1, kind["size"])], asked.name_of)
-    return said + (f" {text!r}" if text else literal(asked.named, value) if is_text(kind) else "")
+    if text:
+        return f"{said} {text!r}"
+    return said + (literal(asked.named, value) if is_text(kind) else "")
 
 
 def literal(named: Elf, address: int) -> str:

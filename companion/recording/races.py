@@ -94,7 +94,9 @@ class Group:
 
     @property
     def kind(self) -> str:
-        return FENCED if self.fenced else ORDERED if self.ordered else ""
+        if self.fenced:
+            return FENCED
+        return ORDERED if self.ordered else ""
 
 
 class Races:

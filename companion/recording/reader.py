@@ -103,8 +103,7 @@ class Codes(Dict[bytes, int]):
                                  or self.entries.are_led_to(ins.pc, ins.leads)):
             shape |= GOES
         elif ins.kind == AMO:
-            shape |= (STORES | TRIES if ins.name.startswith("sc.")
-                      else LOADS if ins.name.startswith("lr.") else BOTH)
+            shape |= {"sc": STORES | TRIES, "lr": LOADS}.get(ins.name.partition(".")[0], BOTH)
         else:
             shape |= {LOAD: LOADS, STORE: STORES, CALL: ASKS}.get(ins.kind, 0)
         self.shapes.append(shape)

@@ -276,6 +276,7 @@ def elements_of(found: Entry) -> int:
         if each.tag == SUBRANGE:
             upper = each.number(UPPER)
             here = each.number(COUNT)
-            here = here if here is not None else upper + 1 if upper is not None else 0
+            if here is None:
+                here = 0 if upper is None else upper + 1
             count *= here if 0 < here < LARGEST else 0
     return count if count < LARGEST else 0

@@ -181,8 +181,9 @@ def story_data(story: Optional[Story], teller: Teller, log: Log,
         stopped = story.switches[at].stopped if at < len(story.switches) else None
         is_last = all(piece.hart != hart for piece in story.pieces[at + 1:])
         begin = behind.get(hart, 0)
-        end = (log.ends[hart].count if is_last and hart in log.ends
-               else stopped.ic + 1 if stopped else begin)
+        end = stopped.ic + 1 if stopped else begin
+        if is_last and hart in log.ends:
+            end = log.ends[hart].count
         pieces.append([hart, turns, begin, rows.row_of(hart, begin), end,
                        rows.row_of(hart, max(begin, end - 1))])
         behind[hart] = end

@@ -258,8 +258,9 @@ class View:
 
     def about(self) -> str:
         crash = self.crash
-        return ("output" if crash.output else "fault" if self.fault else "row" if crash.asked
-                else "hang" if crash.loops else "end")
+        about = (("output", crash.output), ("fault", self.fault), ("row", crash.asked),
+                 ("hang", crash.loops), ("end", True))
+        return next(word for word, is_there in about if is_there)
 
     def hang(self) -> list[str]:
         lines = hang_lines(self.crash, False) if self.crash.loops else []

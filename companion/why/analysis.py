@@ -92,7 +92,9 @@ def analysis_of(asked: Opened, row: str, output: Byte | None) -> Analysis:
     the start come from before the first."""
     source = asked.source
     byte = written(source.whole(), output) if output else None
-    at = asked_row(row) if row else At(byte.call.hart, byte.call.count) if byte else None
+    at = At(byte.call.hart, byte.call.count) if byte else None
+    if row:
+        at = asked_row(row)
     entries = entries_of(asked.named)
     most = asked.rows or FIRST_ROWS
     size = most

@@ -52,8 +52,9 @@ def came_from(facts: Facts, n: int) -> str:
         places = facts.places.chain([stored.code.pc, *stored.calls], MOST_FRAMES)
         moment = f"hart {stored.hart} at count {number(stored.ic)}"
         return f"stored before the rows that were read, by {moment} in {places}"
-    before = ("stored before the rows that were read" if facts.is_part
-              else "stored before the log" if facts.log.dropped else "")
+    before = "stored before the log" if facts.log.dropped else ""
+    if facts.is_part:
+        before = "stored before the rows that were read"
     mask = sum(255 << 8 * i for i in mine)
     value = told.value & mask
     if value != (facts.elf.word(word) or 0) & mask:

@@ -66,8 +66,11 @@ def suspects_head(facts: Analysis) -> str:
 
 
 def heading(facts: Analysis) -> str:
-    return ("OUTPUT" if facts.output else "ROW" if facts.asked
-            else "FAULT" if facts.faulted else "END")
+    if facts.output:
+        return "OUTPUT"
+    if facts.asked:
+        return "ROW"
+    return "FAULT" if facts.faulted else "END"
 
 
 def head_lines(facts: Analysis) -> list[str]:

@@ -89,8 +89,11 @@ RULES: Dict[str, Any] = {
 
 def key_of(value):
     """What tells an argument from others: all else belongs to the one program."""
-    return (tuple(value) if isinstance(value, list) else frozenset(value) if isinstance(value, set)
-            else value if isinstance(value, int) else None)
+    if isinstance(value, list):
+        return tuple(value)
+    if isinstance(value, set):
+        return frozenset(value)
+    return value if isinstance(value, int) else None
 
 
 def remember(module, name, given_out=lambda result: result):

@@ -409,8 +409,9 @@ def changed_records(draw, records, others):
 
 def spoiled(draw, data, way, flip):
     """Returns a file with flipped bits, with other bytes, or a prefix of it."""
-    return (flip(draw, data) if way == 0 else patched(draw, data) if way == 1
-            else data[: draw.randrange(len(data))])
+    if way == 0:
+        return flip(draw, data)
+    return patched(draw, data) if way == 1 else data[: draw.randrange(len(data))]
 
 
 def mutated_log(draw, pool):

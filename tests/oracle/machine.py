@@ -327,8 +327,9 @@ class Machine:
             self.come_back(hart, row)
         elif jump.code.is_jump and self.functions.is_entry(jump.code.pc, row.code.pc):
             is_restore = self.functions.is_restore(row.code.pc)
-            back = (hart.frame.back if hart.frame and hart.frame.source
-                    else None if is_restore else hart.ra)
+            back = None if is_restore else hart.ra
+            if hart.frame and hart.frame.source:
+                back = hart.frame.back
             self.call(hart, jump, row, back, True)
             if hart.frame:
                 hart.frame.is_hidden = is_restore

@@ -82,7 +82,8 @@ def gcc_tests(folder: str) -> Iterator[Test]:
             options = tuple(word for words in OPTIONS.findall(text) for word in words.split()
                             if word[:2] in ("-f", "-D") and "sanitize" not in word)
             settings = SETTINGS.search(text)
-            yield Test("gcc/" + name, path, (kind[1] if kind else ANY) if is_bad else "", lines,
+            told = kind[1] if kind else ANY
+            yield Test("gcc/" + name, path, told if is_bad else "", lines,
                        ("-O0", "-O2"), options, settings[1] if settings else "")
 
 
@@ -143,7 +144,9 @@ def end_of(test: Test, kinds: Sequence[str], lines: Iterable[int]) -> str:
     else:
         is_named = bool(kinds) and (test.kind == ANY or test.kind.split("-")[0]
                                     in {each.split("-")[0] for each in kinds})
-    return "named" if is_named else "another line" if kinds else "not told"
+    if is_named:
+        return "named"
+    return "another line" if kinds else "not told"
 
 
 def companion(*words: str) -> Dict[str, Any]:
@@ -156,10 +159,11 @@ def companion(*words: str) -> Dict[str, Any]:
 
 def lines_in(found: Any) -> Iterator[int]:
     """All lines of an answer's part."""
+    parts = found if isinstance(found, list) else []
     if isinstance(found, dict):
         yield from (value for key, value in found.items() if key == "line" and value)
-    for each in (found.values() if isinstance(found, dict)
-                 else found if isinstance(found, list) else ()):
+        parts = list(found.values())
+    for each in parts:
         yield from lines_in(each)
 
 

@@ -191,8 +191,10 @@ def man_words(table: Table) -> Lines:
     for entry in table:
         yield f".TP\n{bold(entry.name)}"
         for key, text in entry.texts:
-            yield from (sentence(text) if key == "does"
-                        else [paragraph(text)] if key == "more" else [])
+            if key == "does":
+                yield from sentence(text)
+            elif key == "more":
+                yield paragraph(text)
 
 
 def man_companions(table: Table) -> Lines:

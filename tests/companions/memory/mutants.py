@@ -47,8 +47,9 @@ def try_mutant(mutant):
         if not planted(mutant, folder):
             return f"can't be planted: {mutant['file']} doesn't have its line once"
         is_good, said = passes(folder, mutant)
-        return ("NOT FOUND" if is_good else "found" if "Error" in said
-                else f"can't be tried: {said[-200:]}")
+        if is_good:
+            return "NOT FOUND"
+        return "found" if "Error" in said else f"can't be tried: {said[-200:]}"
 
 
 def main(names):

@@ -36,8 +36,12 @@ def calls_in(log, elf, entry, size=0):
                             or before[0] == "jump" and not entry <= before[1] < entry + size):
             found.append([hart, count, registers.get("a0"), None, None])
             opened.append((found[-1], registers["ra"], registers["sp"]))
-        before[:] = ("ret" if (row[4], row[5]) == ("jalr", "zero,0(ra)") else "" if row[4]
-                     not in ("jal", "jalr") else "call" if row[5].startswith("ra,") else "jump"), pc
+        kind = ""
+        if (row[4], row[5]) == ("jalr", "zero,0(ra)"):
+            kind = "ret"
+        elif row[4] in ("jal", "jalr"):
+            kind = "call" if row[5].startswith("ra,") else "jump"
+        before[:] = kind, pc
         if row[6]:
             registers[row[6]] = int(row[7], 16)
     return found
