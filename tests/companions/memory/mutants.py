@@ -17,7 +17,7 @@ sys.path.insert(0, TOP)
 from tests.oracle.mutants import planted, read_mutants      # noqa: E402
 
 COPIED = ("companion", "tests/companions")
-LINKED = ("examples", "release", "python", "tests/crashes", "VERSION")
+LINKED = ("examples", "release", "python", "tests/crashes", "tests/oracle", "VERSION")
 
 
 def copied(folder):
