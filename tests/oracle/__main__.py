@@ -1,8 +1,10 @@
-"""python3 -m tests.oracle [--seed N] [--minutes M | --recordings N] [--only WORD] [--case NAME] [--project DIR] [--keep DIR]
+"""python3 -m tests.oracle [--seed N] [--minutes M | --recordings N] [--only WORD] [--case NAME]
+[--project DIR] [--keep DIR]
 
-Compares what the companions say with the oracle's answers, of random programs from a number on. `--only` asks some words (history,
-calls ..), `--project` asks the companions of another checkout than this. Each difference is told with the recording's
-command, the question and both answers; its files are kept below --keep. The status is 1 if there is one."""
+Compares what the companions say with the oracle's answers, of random programs from a number on.
+`--only` asks some words (history, calls ..), `--project` asks the companions of another checkout
+than this. Each difference is told with the recording's command, the question and both answers; its
+files are kept below --keep. The status is 1 if there is one."""
 from __future__ import annotations
 
 import argparse
@@ -40,12 +42,15 @@ from .server import Server
 
 TOP = os.path.dirname(os.path.dirname(os.path.dirname(os.path.abspath(__file__))))
 WORDS: Dict[str, Callable[[Asked, random.Random], None]] = {
-    "history": ask_history, "calls": ask_calls, "find": ask_find, "export": ask_export, "output": ask_output, "race": ask_race,
-    "why": ask_why, "names": ask_names, "bucket": ask_bucket, "same": ask_same, "page": ask_page, "core": ask_core, "shrink": ask_shrink_seldom,
+    "history": ask_history, "calls": ask_calls, "find": ask_find, "export": ask_export,
+    "output": ask_output, "race": ask_race,
+    "why": ask_why, "names": ask_names, "bucket": ask_bucket, "same": ask_same, "page": ask_page,
+    "core": ask_core, "shrink": ask_shrink_seldom,
     "memory": ask_memory, "gdb": ask_gdb}
 
 
-def asked_of(given: argparse.Namespace, server: Server, recorded: building.Recorded, tally: Tally, has_gdb: bool) -> Asked:
+def asked_of(given: argparse.Namespace, server: Server, recorded: building.Recorded,
+             tally: Tally, has_gdb: bool) -> Asked:
     names = Program(recorded.named, has_gdb)
     machine = Machine(given.program, recorded.log, recorded.elf, names.functions())
     environment = {"ZELKUMA_PROGRAM": given.program, **({} if has_gdb else {"ZELKUMA_GDB": "nope"})}
@@ -63,7 +68,8 @@ def ask_all(given: argparse.Namespace, asked: Asked, seed: int) -> None:
 
 
 def options(words: List[str]) -> argparse.Namespace:
-    parser = argparse.ArgumentParser(prog="tests.oracle", description=__doc__, formatter_class=argparse.RawDescriptionHelpFormatter)
+    parser = argparse.ArgumentParser(prog="tests.oracle", description=__doc__,
+                                     formatter_class=argparse.RawDescriptionHelpFormatter)
     parser.add_argument("--seed", type=int, default=1)
     parser.add_argument("--minutes", type=float, default=0.0)
     parser.add_argument("--recordings", type=int, default=5)
@@ -81,14 +87,18 @@ class Session:
     """What is tried, each in a folder of its own, which is kept if something differs."""
 
     def __init__(self, given: argparse.Namespace) -> None:
-        self.given, self.tally, self.told, self.recordings = given, Tally(), 0, 0
+        self.given = given
+        self.tally = Tally()
+        self.told = 0
+        self.recordings = 0
         self.folder = given.keep or tempfile.mkdtemp(prefix="oracle-")
         os.makedirs(self.folder, exist_ok=True)
         self.server = Server(given.project, self.folder)
 
     def try_seed(self, folder: str, seed: int) -> None:
         """A program of a number."""
-        recorded, draw = building.drawn(self.given.program, folder, seed), random.Random(f"{seed} again")
+        recorded = building.drawn(self.given.program, folder, seed)
+        draw = random.Random(f"{seed} again")
         asked = asked_of(self.given, self.server, recorded, self.tally, draw.random() < 0.6)
         ask_all(self.given, asked, seed)
         if asks(self.given, "compare") and recorded.is_whole and draw.random() < 0.4:
@@ -104,14 +114,16 @@ class Session:
         options = list(case.record) if "--seed" in case.record else ["--seed", "1", *case.record]
         both = []
         for number, read in enumerate((case.first, case.second)[:2 if case.second else 1]):
-            recorded = building.recorded(self.given.program, folder, elf, named, case.harts, *options, read=read, number=number)
+            recorded = building.recorded(self.given.program, folder, elf, named, case.harts,
+                                         *options, read=read, number=number)
             both.append(asked_of(self.given, self.server, recorded, self.tally, case.has_gdb))
         case.ask(both[0])
         if case.second:
             ask_compare(*both)
 
     def attempt(self, name: str, what: Callable[[str], None]) -> None:
-        before, own = sum(self.tally.differing.values()), os.path.join(self.folder, name)
+        before = sum(self.tally.differing.values())
+        own = os.path.join(self.folder, name)
         os.makedirs(own, exist_ok=True)
         what(own)
         self.recordings += 1
@@ -127,7 +139,8 @@ class Session:
                 self.attempt(case.name, functools.partial(self.try_case, case=case))
 
     def seeds(self) -> None:
-        given, until = self.given, time.monotonic() + 60 * self.given.minutes
+        given = self.given
+        until = time.monotonic() + 60 * self.given.minutes
         seed = given.seed
         while time.monotonic() < until if given.minutes else seed < given.seed + given.recordings:
             self.attempt(str(seed), functools.partial(self.try_seed, seed=seed))
@@ -139,10 +152,13 @@ class Session:
         print(", ".join(f"{word} {count:,}" for word, count in sorted(tally.compared.items())))
         for kind, count in sorted(tally.differing.items()):
             print(f"differs: {kind}: {count:,}")
-        total, differing = sum(tally.compared.values()), sum(tally.differing.values())
-        used = sum(sum(resource.getrusage(who)[:2]) for who in (resource.RUSAGE_SELF, resource.RUSAGE_CHILDREN))
-        print(f"{total:,} answers of {self.recordings} recordings compared in {used:,.0f} processor seconds, {differing:,} differ" +
-              (f"; their files are in {self.folder}" if differing else ""))
+        total = sum(tally.compared.values())
+        differing = sum(tally.differing.values())
+        used = sum(sum(resource.getrusage(who)[:2])
+                   for who in (resource.RUSAGE_SELF, resource.RUSAGE_CHILDREN))
+        print(f"{total:,} answers of {self.recordings} recordings compared in {used:,.0f} "
+              f"processor seconds, {differing:,} differ"
+              + (f"; their files are in {self.folder}" if differing else ""))
         if not differing and not self.given.keep:
             shutil.rmtree(self.folder, ignore_errors=True)
         return 1 if differing else 0

@@ -1,6 +1,8 @@
-"""Runs companions of a checkout, each call in a child of one process that has loaded them all: most take less than python's start.
+"""Runs companions of a checkout, each call in a child of one process that has loaded them all: most
+take less than python's start.
 
-python3 server.py PROJECT: each line of the input is a call as JSON, each line of the output its status. `Server` asks it."""
+python3 server.py PROJECT: each line of the input is a call as JSON, each line of the output its
+status. `Server` asks it."""
 import importlib
 import json
 import os
@@ -29,26 +31,29 @@ class Answer(NamedTuple):
 
 
 class Server:
-    """The companions of a checkout, loaded once. Files in a folder have what they are given and say."""
+    """The companions of a checkout, loaded once. Files in a folder have what they are given and
+    say."""
 
     def __init__(self, project: str, folder: str) -> None:
         os.makedirs(folder, exist_ok=True)
         self.project = project
-        self.given, self.out, self.err = (os.path.join(folder, name) for name in ("in", "out", "err"))
+        self.given, self.out, self.err = (os.path.join(folder, name)
+                                          for name in ("in", "out", "err"))
         self.process = subprocess.Popen([sys.executable, "-B", os.path.abspath(__file__), project],
                                         stdin=subprocess.PIPE, stdout=subprocess.PIPE, text=True)
 
-    def run(self, words: Sequence[str], environment: Mapping[str, str], seconds: int = 0, given: bytes = b"",
-            bound: Optional[float] = None) -> Answer:
-        """Calls one, with these variables beside this process's own. It may take so many processor seconds, unless that is 0,
-        and so many by the clock, if there is a bound; else it is ended, and nothing more can be called."""
+    def run(self, words: Sequence[str], environment: Mapping[str, str], seconds: int = 0,
+            given: bytes = b"", bound: Optional[float] = None) -> Answer:
+        """Calls one, with these variables beside this process's own. It may take so many processor
+        seconds, unless that is 0, and so many by the clock, if there is a bound; else it is ended,
+        and nothing more can be called."""
         assert self.process.stdin and self.process.stdout
         with open(self.given, "wb") as file:
             file.write(given)
         mask = os.umask(0)
         os.umask(mask)
-        call = {"words": words, "environment": {**os.environ, **environment}, "folder": os.getcwd(), "umask": mask,
-                "seconds": seconds, "files": (self.given, self.out, self.err)}
+        call = {"words": words, "environment": {**os.environ, **environment}, "folder": os.getcwd(),
+                "umask": mask, "seconds": seconds, "files": (self.given, self.out, self.err)}
         self.process.stdin.write(json.dumps(call) + "\n")
         self.process.stdin.flush()
         if not select.select([self.process.stdout], [], [], bound)[0]:
@@ -86,7 +91,8 @@ def run(project: str, call: Dict[str, Any]) -> None:
     if call["seconds"]:
         resource.setrlimit(resource.RLIMIT_CPU, (call["seconds"], call["seconds"] + 1))
     for number, name in enumerate(call["files"]):
-        os.dup2(os.open(name, os.O_RDONLY if number == 0 else os.O_WRONLY | os.O_CREAT | os.O_TRUNC, 0o600), number)
+        os.dup2(os.open(name, os.O_RDONLY if number == 0 else os.O_WRONLY | os.O_CREAT | os.O_TRUNC,
+                        0o600), number)
     os.umask(call["umask"])
     sys.argv = [os.path.join(project, "companion"), *call["words"]]
     runpy.run_path(sys.argv[0], run_name="__main__")
@@ -101,7 +107,8 @@ def main() -> None:
             run(project, json.loads(line))
             os._exit(0)
         _, status = os.waitpid(child, 0)
-        print(-os.WTERMSIG(status) if os.WIFSIGNALED(status) else os.WEXITSTATUS(status), flush=True)
+        print(-os.WTERMSIG(status) if os.WIFSIGNALED(status) else os.WEXITSTATUS(status),
+              flush=True)
 
 
 if __name__ == "__main__":

@@ -1,4 +1,5 @@
-"""How a companion ends whatever its streams, its environment and Ctrl-C do: a line and a status, never a traceback."""
+"""How a companion ends whatever its streams, its environment and Ctrl-C do: a line and a status,
+never a traceback."""
 import itertools
 import os
 import pty
@@ -18,9 +19,10 @@ class OutputsTest(case.Case):
     def words(self):
         """A call of each word that prints."""
         log, elf = self.crash("race_settings")
-        return [("why", log, elf), ("race", log, elf), ("view", log, elf), ("bucket", log, elf), ("names", elf, "main"),
-                ("names", elf), ("gdb", log, elf), ("seeds", "1", "2", "--", "--harts", "2", elf, common.path("s.log"),
-                                                    common.path("s.book")), ("help",), ("why", "--help")]
+        return [("why", log, elf), ("race", log, elf), ("view", log, elf), ("bucket", log, elf),
+                ("names", elf, "main"), ("names", elf), ("gdb", log, elf),
+                ("seeds", "1", "2", "--", "--harts", "2", elf, common.path("s.log"),
+                 common.path("s.book")), ("help",), ("why", "--help")]
 
     def given(self, words):
         """What a word reads so that it prints."""
@@ -28,8 +30,9 @@ class OutputsTest(case.Case):
 
     def shell(self, script, words, **environment):
         """A call whose streams a shell has set up."""
-        done = subprocess.run(["bash", "-c", script, "bash", sys.executable, common.COMPANION, *words],
-                              input=self.given(words), stdout=subprocess.PIPE, stderr=subprocess.PIPE, timeout=BOUND,
+        done = subprocess.run(["bash", "-c", script, "bash", sys.executable, common.COMPANION,
+                               *words], input=self.given(words),
+                              stdout=subprocess.PIPE, stderr=subprocess.PIPE, timeout=BOUND,
                               env=dict(os.environ, **environment), check=False)
         return done.returncode, done.stdout, done.stderr.decode("utf-8", "replace")
 
@@ -37,20 +40,23 @@ class OutputsTest(case.Case):
         for words in self.words():
             for output in (">/dev/full", ">&-"):
                 status, _, err = self.shell('"$@" ' + output, words)
-                self.assertEqual((status, err.count("\n"), "takes no more" in err), (13, 1, True), (words, output, err))
+                self.assertEqual((status, err.count("\n"), "takes no more" in err),
+                                 (13, 1, True), (words, output, err))
 
     def test_a_page_that_takes_nothing_is_13(self):
         log, elf = self.crash("race_settings")
         status, _, err = self.shell('"$@" --html /dev/stdout >/dev/full', ("why", log, elf))
         self.assertEqual((status, "takes no more" in err), (13, True), err)
-        self.assertIn("it is a pipe or a device", self.refuses(3, "why", log, elf, "--html", "/dev/full"))
+        self.assertIn("it is a pipe or a device",
+                      self.refuses(3, "why", log, elf, "--html", "/dev/full"))
 
     def test_a_reader_that_ends_is_13_without_a_word(self):
         for words in self.words():
             if words[0] == "gdb":               # who asks it may leave at any time
                 continue
-            process = subprocess.Popen([sys.executable, common.COMPANION, *words], stdin=subprocess.PIPE, stdout=subprocess.PIPE,
-                                       stderr=subprocess.PIPE)
+            process = subprocess.Popen([sys.executable, common.COMPANION, *words],
+                                       stdin=subprocess.PIPE,
+                                       stdout=subprocess.PIPE, stderr=subprocess.PIPE)
             process.stdout.close()
             process.stdout = None               # nothing is read of it
             _, err = process.communicate(self.given(words), timeout=BOUND)
@@ -69,9 +75,11 @@ class OutputsTest(case.Case):
             self.assertEqual(self.shell('"$@" <&-', words), (0, b"", ""), words)
 
     def test_few_files(self):
-        """As many files as there may be open: a line and a status, or the answer. Fewer than 5 end python itself."""
+        """As many files as there may be open: a line and a status, or the answer. Fewer than 5 end
+        python itself."""
         log, elf = self.crash("race_settings")
-        for words in (("why", log, elf), ("view", log, elf), ("bucket", log, elf), ("gdb", log, elf), ("names", elf, "main")):
+        for words in (("why", log, elf), ("view", log, elf), ("bucket", log, elf),
+                      ("gdb", log, elf), ("names", elf, "main")):
             for files in (5, 6, 7, 8, 9, 10, 12):
                 status, _, err = self.shell('ulimit -n %d; exec "$@"' % files, words)
                 self.assertNotIn("Traceback", err, (words, files))
@@ -81,38 +89,51 @@ class OutputsTest(case.Case):
 
     def test_environments(self):
         log, elf = self.crash("race_settings")
-        plain, told = self.says("bucket", log, elf), self.says("why", log, elf)
-        for environment in ({"PYTHONOPTIMIZE": "2"}, {"PYTHONDEVMODE": "1"}, {"TMPDIR": "/nowhere"}, {"LC_ALL": "C"},
-                            {"PYTHONWARNINGS": "always"}, {"PYTHONIOENCODING": "ascii"}, {"PYTHONUNBUFFERED": "1"},
+        plain = self.says("bucket", log, elf)
+        told = self.says("why", log, elf)
+        for environment in ({"PYTHONOPTIMIZE": "2"}, {"PYTHONDEVMODE": "1"}, {"TMPDIR": "/nowhere"},
+                            {"LC_ALL": "C"}, {"PYTHONWARNINGS": "always"},
+                            {"PYTHONIOENCODING": "ascii"}, {"PYTHONUNBUFFERED": "1"},
                             {"HOME": "/nowhere"}, {"PYTHONSAFEPATH": "1"}, {"PYTHONINSPECT": "1"}):
-            self.assertEqual(common.companion("bucket", log, elf, environment=environment), (0, plain, ""), environment)
-            self.assertEqual(common.companion("why", log, elf, environment=environment), (0, told, ""), environment)
+            self.assertEqual(common.companion("bucket", log, elf, environment=environment),
+                             (0, plain, ""), environment)
+            self.assertEqual(common.companion("why", log, elf, environment=environment),
+                             (0, told, ""), environment)
         for word in ("names", "why", "race", "view", "gdb", "bucket", "seeds"):
-            status, said, err = common.companion(word, "--help", environment={"PYTHONOPTIMIZE": "2"})
+            status, said, err = common.companion(word, "--help",
+                                                 environment={"PYTHONOPTIMIZE": "2"})
             self.assertEqual((status, err), (0, ""))
             self.assertIn("zelkuma %s " % word, said)
-        self.assertIn("Companions show", common.companion("help", environment={"PYTHONOPTIMIZE": "2"})[1])
+        self.assertIn("Companions show",
+                      common.companion("help", environment={"PYTHONOPTIMIZE": "2"})[1])
 
     def test_a_python_without_a_module(self):
         """As Debian's python3-minimal, which lacks html."""
-        script = "import runpy, sys; sys.modules['html'] = None; del sys.argv[0]; runpy.run_path(sys.argv[0], run_name='__main__')"
-        done = subprocess.run([sys.executable, "-c", script, common.COMPANION, "why", "LOG", "ELF"], stderr=subprocess.PIPE, check=False)
-        self.assertEqual((done.returncode, done.stderr), (1, b"zelkuma: this python3 has no module html: apt-get install -y python3\n"))
+        script = ("import runpy, sys; sys.modules['html'] = None; del sys.argv[0]; "
+                  "runpy.run_path(sys.argv[0], run_name='__main__')")
+        done = subprocess.run([sys.executable, "-c", script, common.COMPANION, "why", "LOG", "ELF"],
+                              stderr=subprocess.PIPE, check=False)
+        self.assertEqual((done.returncode, done.stderr), (1, b"zelkuma: this python3 has no module "
+                                                          b"html: apt-get install -y python3\n"))
 
     def test_progress_on_a_terminal(self):
         log, elf = self.crash("hang")
         ours, theirs = pty.openpty()
-        done = subprocess.run([sys.executable, common.COMPANION, "why", log, elf], stdout=subprocess.PIPE, stderr=theirs, check=False)
+        done = subprocess.run([sys.executable, common.COMPANION, "why", log, elf],
+                              stdout=subprocess.PIPE, stderr=theirs, check=False)
         os.close(theirs)
         said = os.read(ours, 65536).decode()
         os.close(ours)
         self.assertEqual(done.returncode, 0)
-        self.assertRegex(said, r"\A\r[\d,]+ of 60,000 rows are read\x1b\[K(\r[^\r]*\x1b\[K)*\r\x1b\[K\Z")
+        self.assertRegex(said,
+                         r"\A\r[\d,]+ of 60,000 rows are read\x1b\[K(\r[^\r]*\x1b\[K)*\r\x1b\[K\Z")
 
     def test_numbers_that_are_too_long(self):
         log, elf = self.crash("hang")
-        for words in (("names", elf, "hang.c:" + "9" * 5000), ("why", log, elf, "--row", "0:" + "9" * 5000),
-                      ("why", log, elf, "--rows", "9" * 5000), ("race", log, elf, "--max", "9" * 5000)):
+        for words in (("names", elf, "hang.c:" + "9" * 5000),
+                      ("why", log, elf, "--row", "0:" + "9" * 5000),
+                      ("why", log, elf, "--rows", "9" * 5000),
+                      ("race", log, elf, "--max", "9" * 5000)):
             status, _, err = common.companion(*words)
             self.assertIn(status, (2, 4), words)
             self.assertEqual((err.count("\n"), "failed inside" in err), (1, False))
@@ -120,9 +141,11 @@ class OutputsTest(case.Case):
 
 class InterruptTest(case.Case):
     def started(self, *words, **streams):
-        """A companion that has come so far that Ctrl-C is its own matter: it runs a process, or has said something."""
-        process = subprocess.Popen([sys.executable, common.COMPANION, *words], stdin=subprocess.PIPE,
-                                   stdout=subprocess.PIPE, stderr=subprocess.PIPE, start_new_session=True, **streams)
+        """A companion that has come so far that Ctrl-C is its own matter: it runs a process, or has
+        said something."""
+        process = subprocess.Popen([sys.executable, common.COMPANION, *words],
+                                   stdin=subprocess.PIPE, stdout=subprocess.PIPE,
+                                   stderr=subprocess.PIPE, start_new_session=True, **streams)
         self.addCleanup(process.kill)
         if words[0] == "names":
             process.stdin.write(b"0 0 00010074 00000013 addi zero,zero,0\n")
@@ -130,18 +153,22 @@ class InterruptTest(case.Case):
             process.stdout.readline()
         until = time.monotonic() + BOUND
         while words[0] != "names" and process.poll() is None and time.monotonic() < until:
-            with open("/proc/%d/task/%d/children" % (process.pid, process.pid), encoding="ascii") as file:
+            with open("/proc/%d/task/%d/children" % (process.pid, process.pid),
+                      encoding="ascii") as file:
                 if file.read().strip():
                     break
         return process
 
     def test_ctrl_c_is_130(self):
         options = ("--harts", "2", "--seed", "1", "--limit", "300000", "--log-size", "16777216")
-        log, elf = self.record("counter", *options), self.elf("counter")
+        log = self.record("counter", *options)
+        elf = self.elf("counter")
         out = [common.path("interrupted.log"), common.path("interrupted.book")]
-        seen, of_words = [], itertools.cycle(((0, 0.1), (0.02, 0.3)))
-        for words in (("why", log, elf), ("race", log, elf), ("view", log, elf), ("bucket", log, elf), ("gdb", log, elf),
-                      ("names", self.crash("hang")[1]), ("seeds", "0", "1000000", "--", elf, *out)):
+        seen = []
+        of_words = itertools.cycle(((0, 0.1), (0.02, 0.3)))
+        for words in (("why", log, elf), ("race", log, elf), ("view", log, elf),
+                      ("bucket", log, elf), ("gdb", log, elf), ("names", self.crash("hang")[1]),
+                      ("seeds", "0", "1000000", "--", elf, *out)):
             for delay in next(of_words):
                 process = self.started(*words)
                 time.sleep(delay)

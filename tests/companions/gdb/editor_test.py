@@ -1,4 +1,5 @@
-"""What an editor does with `zelkuma gdb`: gdb's MI interface over a port, with the settings of examples/launch.json."""
+"""What an editor does with `zelkuma gdb`: gdb's MI interface over a port, with the settings of
+examples/launch.json."""
 import json
 import os
 import re
@@ -15,11 +16,13 @@ BOUND = 300                 # seconds after which a process hangs: others may ha
 
 
 class Editor:
-    """gdb by its MI interface: a command, and what it answers up to its result, or up to the stop after it."""
+    """gdb by its MI interface: a command, and what it answers up to its result, or up to the stop
+    after it."""
 
     def __init__(self):
-        self.process = subprocess.Popen([GDB, "-nx", "-q", "--interpreter=mi2"], stdin=subprocess.PIPE,
-                                        stdout=subprocess.PIPE, stderr=subprocess.STDOUT, universal_newlines=True)
+        self.process = subprocess.Popen([GDB, "-nx", "-q", "--interpreter=mi2"],
+                                        stdin=subprocess.PIPE, stdout=subprocess.PIPE,
+                                        stderr=subprocess.STDOUT, universal_newlines=True)
 
     def ask(self, command, until=r"^\^(done|connected|error|exit)"):
         self.process.stdin.write(command + "\n")
@@ -47,9 +50,11 @@ class EditorTest(case.Case):
 
     def start(self, settings, log):
         """The bridge as the editor starts it, on a free port: (port, process)."""
-        words = settings["debugServerArgs"].replace("${workspaceFolder}", common.TOP).replace("/tmp/LOG", log).split()
+        words = settings["debugServerArgs"].replace("${workspaceFolder}",
+                                                    common.TOP).replace("/tmp/LOG", log).split()
         words[words.index("3333")] = "0"
-        server = subprocess.Popen([sys.executable, common.COMPANION, *words], stderr=subprocess.PIPE, universal_newlines=True)
+        server = subprocess.Popen([sys.executable, common.COMPANION, *words],
+                                  stderr=subprocess.PIPE, universal_newlines=True)
         self.addCleanup(server.stderr.close)
         self.addCleanup(server.wait, BOUND)
         self.addCleanup(server.kill)
@@ -67,7 +72,8 @@ class EditorTest(case.Case):
             self.assertIn("^done", editor.ask(command["text"]), command)
         self.assertIn("^done", editor.ask("-file-exec-and-symbols " + elf))
         self.assertIn("^connected", editor.ask(f"-target-select remote localhost:{port}"))
-        self.assertIn('"reverse"', editor.ask("-list-target-features"))     # by which the editor shows its buttons back
+        # By which the editor shows its buttons back
+        self.assertIn('"reverse"', editor.ask("-list-target-features"))
         stop = editor.moves("-exec-continue")
         self.assertIn('signal-name="SIGSEGV"', stop)
         self.assertIn('line="48"', stop)

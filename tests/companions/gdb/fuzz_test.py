@@ -1,15 +1,16 @@
-"""Random packets to `zelkuma gdb`, by fixed seeds: after each, what it says is compared with `debug` and `joint`.
+"""Random packets to `zelkuma gdb`, by fixed seeds: after each, what it says is compared with
+`debug` and `joint`.
 
-On each of some small logs there is a session for each of FUZZ_SEEDS seeds from FUZZ_SEED on. Compared
-are the registers of all harts, two words of memory, and the stop: that it is one, and that the way
-there passed over no breakpoint and no watched store."""
+On each of some small logs there is a session for each of FUZZ_SEEDS seeds from FUZZ_SEED on.
+Compared are the registers of all harts, two words of memory, and the stop: that it is one, and that
+the way there passed over no breakpoint and no watched store."""
 import os
 import random
 import unittest
 
 from client import Client, Stop
-from recordings import (A0, A1, A2, A7, DATA, ECALL, EXIT, T0, T1, T2, addi, branch_unless_equal, load, lui, store,
-                        Recordings)
+from recordings import (A0, A1, A2, A7, DATA, ECALL, EXIT, T0, T1, T2, addi, branch_unless_equal,
+                        load, lui, store, Recordings)
 from reference import Reference, size
 
 TRAP = 5
@@ -19,36 +20,45 @@ CHANGES = "set_break clear_break set_watch clear_watch choose".split()
 
 
 def logs(recordings):
-    """Small logs: several harts, short intervals, faults, `read` calls, records that were dropped."""
+    """Small logs: several harts, short intervals, faults, `read` calls, records that were
+    dropped."""
     yield recordings.example("hand_over", "--harts", "2", "--seed", "3")
     yield recordings.example("counter", "--harts", "3", "--limit", "90", "--interval", "20")
     yield recordings.example("counter", "--harts", "16", "--limit", "40", "--format", "2")
     yield recordings.example("lock", "--harts", "2", "--limit", "150")
-    yield recordings.words("race", [addi(T1, 0, 2), addi(T0, T0, 1), addi(T2, 0, 45), branch_unless_equal(T0, T2, -8),
-                                    lui(A1, DATA), store(T0, A1), load(T2, A1), branch_unless_equal(A0, T1, -24),
-                                    load(T1, 0)], "--harts", "3", "--interval", "30", "--limit", "400", "--format", "2")
+    yield recordings.words("race", [addi(T1, 0, 2), addi(T0, T0, 1), addi(T2, 0, 45),
+                                    branch_unless_equal(T0, T2, -8), lui(A1, DATA), store(T0, A1),
+                                    load(T2, A1), branch_unless_equal(A0, T1, -24), load(T1, 0)],
+                           "--harts", "3", "--interval", "30", "--limit", "400", "--format", "2")
     reads = [lui(A1, DATA), addi(A1, A1, 6), addi(A2, 0, 5), addi(A0, 0, 0), addi(A7, 0, 63), ECALL,
-             *[addi(T1, T1, 1)] * 6, load(T0, A1, 2), store(A2, A1, 1, kind=0), branch_unless_equal(A0, 0, -52), *EXIT]
+             *[addi(T1, T1, 1)] * 6, load(T0, A1, 2), store(A2, A1, 1, kind=0),
+             branch_unless_equal(A0, 0, -52), *EXIT]
     for harts in ("1", "2"):
-        yield recordings.words("reads", reads, "--input", recordings.write("input", bytes(range(97))), "--harts", harts,
-                               data=b"\x11" * 20)
-    yield recordings.example("counter", "--harts", "4", "--log-size", "16384", "--interval", "64", "--limit", "3000")
+        yield recordings.words("reads", reads,
+                               "--input", recordings.write("input", bytes(range(97))),
+                               "--harts", harts, data=b"\x11" * 20)
+    yield recordings.example("counter", "--harts", "4", "--log-size", "16384", "--interval",
+                             "64", "--limit", "3000")
 
 
 class Session:
     """One session of random packets."""
 
     def __init__(self, log, elf, reference, seed):
-        self.random, self.reference = random.Random(seed), reference
+        self.random = random.Random(seed)
+        self.reference = reference
         self.client = Client(log, elf, room=self.random.choice((None, 4000)))
         rows = reference.rows
         self.pcs = sorted({row.pc for row in rows})
         self.words = sorted({at[0] & ~3 for row in rows for at in (row.load, row.store) if at})
         self.stores = sorted({(row.store[0], size(row)) for row in rows if row.store})
         self.stores += sorted({fill[1:] for fill in reference.fills})
-        filled = [word for _, address, _ in reference.fills for word in (address & ~3, address + 3 & ~3)]
+        filled = [word for _, address, _ in reference.fills
+                  for word in (address & ~3, address + 3 & ~3)]
         self.unsure = sorted(set(filled or self.words))[:6] if filled or reference.dropped else []
-        self.breaks, self.watches, self.tally = set(), set(), {}
+        self.breaks = set()
+        self.watches = set()
+        self.tally = {}
         self.may_stay = False  # the latest move met a watchpoint at once: the step over it may stay
 
     # What is set
@@ -71,7 +81,8 @@ class Session:
         if self.stores and len(self.watches) < 3:
             first, length = self.random.choice(self.stores)
             if self.random.random() < 0.5:
-                first, length = first + self.random.randrange(length), 1
+                first = first + self.random.randrange(length)
+                length = 1
             self.watches.add((first, length))
             self.ok(f"Z2,{first:x},{length:x}")
 
@@ -107,7 +118,8 @@ class Session:
         stop = self.without_stops(self.random.choice(("vCont;s:%x;c", "vCont;s:%x")) % (hart + 1))
         after = self.client.counts()
         if stop.end is None and stop.signal == TRAP:
-            assert after[hart] - before.get(hart, after[hart] - 1) in ((0, 1) if self.may_stay else (1,))
+            assert after[hart] - before.get(hart,
+                                            after[hart] - 1) in ((0, 1) if self.may_stay else (1,))
         assert all(after[other] >= count for other, count in before.items())
         return stop
 
@@ -116,11 +128,13 @@ class Session:
         high = low + self.random.choice((16, 64, 4096))
         before = self.client.counts()
         stop = Stop(self.client(f"vCont;r{low:x},{high:x}:{hart + 1:x};c"))
-        first, last = before.get(hart), self.client.counts()[hart]
+        first = before.get(hart)
+        last = self.client.counts()[hart]
         if first is not None:
             inside = [self.reference.by_count[hart, count].pc for count in range(first + 1, last)]
             assert all(low <= pc < high for pc in inside), (low, high, inside)
-        if stop.signal == TRAP and not stop.end and stop.watch is None and stop.pc not in self.breaks:
+        if (stop.signal == TRAP and not stop.end and stop.watch is None
+                and stop.pc not in self.breaks):
             assert stop.hart == hart and not low <= stop.pc < high, stop.text
         return stop
 
@@ -130,7 +144,8 @@ class Session:
         stop = Stop(self.client("vCont;c"))
         end = self.client.counts()
         self.passes_nothing(begin, end, None)
-        for other, count in end.items():  # also those that came to a breakpoint after their last row
+        # Also those that came to a breakpoint after their last row
+        for other, count in end.items():
             if stop.end and begin.get(other) not in (None, count):
                 assert self.reference.states[other, count][32] not in self.breaks
         self.is_stop(stop, 0)
@@ -159,9 +174,11 @@ class Session:
     # What has to hold
 
     def passes_nothing(self, low, high, here):
-        """No row between these counts is at a breakpoint or a watched store, but the one where `here` stands."""
+        """No row between these counts is at a breakpoint or a watched store, but the one where
+        `here` stands."""
         for row in self.reference.rows:
-            if not (row.hart in low and low[row.hart] <= row.count < high.get(row.hart, 0)) or row.fault:
+            if (not (row.hart in low and low[row.hart] <= row.count < high.get(row.hart, 0))
+                    or row.fault):
                 continue
             stands = row.hart == here and row.count == low[row.hart]
             assert stands or row.pc not in self.breaks, row
@@ -196,10 +213,12 @@ class Session:
         for address in self.random.sample(self.words, min(2, len(self.words))) + self.unsure:
             expected = self.reference.word(counts, address)
             found = self.client(f"m{address:x},4")
-            if expected is None and found != "E0e":  # then the steps ahead that the bridge knows tell it
+            # Then the steps ahead that the bridge knows tell it
+            if expected is None and found != "E0e":
                 expected = self.reference.later_word(counts, address)
                 self.tally["later"] = self.tally.get("later", 0) + 1
-            assert found == ("E0e" if expected is None else expected.hex()), (hex(address), found, expected, counts)
+            assert found == ("E0e" if expected is None else expected.hex()), (hex(address), found,
+                                                                              expected, counts)
 
     def play(self):
         for number in range(ROUNDS):
@@ -224,7 +243,8 @@ class Fuzz(unittest.TestCase):
     def test_sessions(self):
         first = int(os.environ.get("FUZZ_SEED", "1"))
         seeds = int(os.environ.get("FUZZ_SEEDS", "2"))      # two see each kind of stop
-        sessions, tally = 0, {}
+        sessions = 0
+        tally = {}
         with Recordings() as recordings:
             prepared = [(pair, Reference(*pair)) for pair in logs(recordings)]
             for seed in range(first, first + seeds):

@@ -1,4 +1,5 @@
-"""A client of gdb's remote protocol, for tests: it starts the bridge and talks to it over a pipe."""
+"""A client of gdb's remote protocol, for tests: it starts the bridge and talks to it over a
+pipe."""
 import os
 import re
 import struct
@@ -22,8 +23,10 @@ class Client:
     def __init__(self, log, elf, *options, room=None):
         start = [COMPANION, "gdb"] if room is None else ["-c", SMALL_ROOM % (TOP, room)]
         self.process = subprocess.Popen([sys.executable, *start, log, elf, *options], bufsize=0,
-                                        stdin=subprocess.PIPE, stdout=subprocess.PIPE, stderr=subprocess.PIPE)
-        self._data, self.said = b"", ""
+                                        stdin=subprocess.PIPE,
+                                        stdout=subprocess.PIPE, stderr=subprocess.PIPE)
+        self._data = b""
+        self.said = ""
         self._acknowledges = True
         assert self("QStartNoAckMode") == "OK"
         self._acknowledges = False
@@ -57,7 +60,8 @@ class Client:
         assert found[2] == checksum(found[1])
         if self._acknowledges:
             self.write(b"+")
-        return re.sub(rb"}(.)", lambda escaped: bytes([escaped[1][0] ^ 32]), found[1], flags=re.S).decode("latin-1")
+        return (re.sub(rb"}(.)", lambda escaped: bytes([escaped[1][0] ^ 32]), found[1], flags=re.S)
+                .decode("latin-1"))
 
     def __call__(self, text):
         self.send(text)
@@ -109,9 +113,11 @@ class Stop:
 
     def __init__(self, text):
         assert text[:1] == "T", text
-        self.text, self.signal = text, int(text[1:3], 16)
+        self.text = text
+        self.signal = int(text[1:3], 16)
         fields = dict(field.split(":") for field in text[3:].split(";") if field)
         self.hart = int(fields["thread"], 16) - 1
         self.pc = int.from_bytes(bytes.fromhex(fields["20"]), "little") if "20" in fields else None
         self.end = fields.get("replaylog")
-        self.watch = next((int(fields[kind], 16) for kind in ("watch", "rwatch", "awatch") if kind in fields), None)
+        self.watch = next((int(fields[kind], 16)
+                           for kind in ("watch", "rwatch", "awatch") if kind in fields), None)

@@ -53,10 +53,12 @@ def version():
 
 
 def record(name, elf, *words, schedule=""):
-    """Records a program, by turns that a schedule names, if there is one: the log's name. Format 2 keeps each crash."""
+    """Records a program, by turns that a schedule names, if there is one: the log's name. Format 2
+    keeps each crash."""
     log = path(name + ".log")
-    done = subprocess.run([PROGRAM, "record", "--format", "2"] + list(words) + [elf, log, path(name + ".book")],
-                          stdout=subprocess.PIPE, stderr=subprocess.PIPE, env=scheduled(schedule))
+    done = subprocess.run([PROGRAM, "record", "--format", "2"]
+                          + list(words) + [elf, log, path(name + ".book")], stdout=subprocess.PIPE,
+                          stderr=subprocess.PIPE, env=scheduled(schedule))
     if not os.path.exists(log):
         sys.exit("no recording of %s: %s" % (elf, done.stderr.decode()))
     return log
@@ -69,7 +71,8 @@ def scheduled(schedule):
 
 def turns_of(order):
     """The turns of an order as `shrink` prints it."""
-    return b"".join(bytes([int(hart)]) * int(turns) for hart, turns in (piece.split("x") for piece in order.split()))
+    return b"".join(bytes([int(hart)]) * int(turns)
+                    for hart, turns in (piece.split("x") for piece in order.split()))
 
 
 def present_tools():
@@ -133,22 +136,27 @@ def example(name):
 
 def output(*words):
     """What a command of the program prints."""
-    return subprocess.run([PROGRAM] + list(words), stdout=subprocess.PIPE, stderr=subprocess.DEVNULL).stdout
+    return subprocess.run([PROGRAM] + list(words), stdout=subprocess.PIPE,
+                          stderr=subprocess.DEVNULL).stdout
 
 
 def rows(log, elf):
     """The rows of `joint`, each as its words: hart, count, address, code and what comes after."""
-    return [line.split(" ") for line in output("joint", log, elf).decode().split("\n") if line[:1].isdigit()]
+    return [line.split(" ")
+            for line in output("joint", log, elf).decode().split("\n") if line[:1].isdigit()]
 
 
 def companion(*words, given=b"", environment=None, bound=None, is_whole=False, starts=False):
-    """(status, output, err) of a companion, which has to end within so many seconds. Most examples are kept stripped: unless err is
-    to be whole, what it says of that is left out. With `starts`, or for what python reads as it starts, python is started."""
+    """(status, output, err) of a companion, which has to end within so many seconds. Most examples
+    are kept stripped: unless err is to be whole, what it says of that is left out. With `starts`,
+    or for what python reads as it starts, python is started."""
     environment = environment or {}
     if starts or any(name.startswith(OF_PYTHON) for name in environment):
-        done = subprocess.run([sys.executable, COMPANION, *words], input=given, stdout=subprocess.PIPE, stderr=subprocess.PIPE,
+        done = subprocess.run([sys.executable, COMPANION, *words], input=given,
+                              stdout=subprocess.PIPE, stderr=subprocess.PIPE,
                               env={**os.environ, **environment}, timeout=bound, check=False)
-        status, out, err = done.returncode, *(said.decode("utf-8", "replace") for said in (done.stdout, done.stderr))
+        status, out, err = done.returncode, *(said.decode("utf-8", "replace")
+                                              for said in (done.stdout, done.stderr))
     else:
         status, out, err = loaded(words, environment, given, bound)
     return status, out, err if is_whole else without_lack(err)

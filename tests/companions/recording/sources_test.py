@@ -1,4 +1,5 @@
-"""Which files are shown as sources: what an ELF file or an archive names is its own matter, what a user has isn't."""
+"""Which files are shown as sources: what an ELF file or an archive names is its own matter, what a
+user has isn't."""
 import os
 import shutil
 import tempfile
@@ -6,19 +7,23 @@ import tempfile
 import case
 import common
 
-NAME, SECRET = "use_after_free.c", "hunter2"
+NAME = "use_after_free.c"
+SECRET = "hunter2"
 BOUND = 300                 # seconds after which a call hangs: others may have the processors
 
 
 class SourcesTest(case.Case):
-    """A log and its ELF in a folder of their own. The lines of addresses name the source by no folder that is there."""
+    """A log and its ELF in a folder of their own. The lines of addresses name the source by no
+    folder that is there."""
 
     def setUp(self):
         log, elf = self.crash("use_after_free")
         self.folder = common.path(self.id().rsplit(".", 1)[-1])
         os.mkdir(self.folder)
-        self.log, self.elf_file = shutil.copy(log, self.folder), shutil.copy(elf, self.folder)
-        self.source, self.outside = os.path.join(self.folder, NAME), common.path("outside")
+        self.log = shutil.copy(log, self.folder)
+        self.elf_file = shutil.copy(elf, self.folder)
+        self.source = os.path.join(self.folder, NAME)
+        self.outside = common.path("outside")
         os.makedirs(self.outside, exist_ok=True)
         lines = common.text_of(os.path.join(common.CRASHES, NAME)).split("\n")
         here = common.path("here")
@@ -33,7 +38,8 @@ class SourcesTest(case.Case):
         return name
 
     def says_of(self, word, *words):
-        status, said, err = common.companion(word, self.log, self.elf_file, *words, environment={"MYTOKEN": SECRET * 100}, bound=BOUND)
+        status, said, err = common.companion(word, self.log, self.elf_file, *words,
+                                             environment={"MYTOKEN": SECRET * 100}, bound=BOUND)
         self.assertEqual((status, err), (0, ""), (word, words))
         return said
 
@@ -58,8 +64,10 @@ class SourcesTest(case.Case):
     def test_a_link_leads_no_further(self):
         inside = os.path.join(self.folder, "src")
         os.mkdir(inside)
-        for target, expected in ((self.write(inside, "real.c"), (True, False)), (self.write(self.outside, "other.c"), (False, True)),
-                                 (self.write(self.outside, "notes"), (False, False)), ("/proc/self/environ", (False, False)),
+        for target, expected in ((self.write(inside, "real.c"), (True, False)),
+                                 (self.write(self.outside, "other.c"), (False, True)),
+                                 (self.write(self.outside, "notes"), (False, False)),
+                                 ("/proc/self/environ", (False, False)),
                                  (os.path.join(self.outside, "none.c"), (False, False))):
             os.symlink(target, self.source)
             self.assertEqual(self.shows(), expected, target)
@@ -88,9 +96,11 @@ class SourcesTest(case.Case):
         shutil.rmtree("tests")
 
     def test_an_absolute_name(self):
-        folder = tempfile.mkdtemp(prefix="", dir="/tmp")      # a name as long as the one whose place it takes
+        # A name as long as the one whose place it takes
+        folder = tempfile.mkdtemp(prefix="", dir="/tmp")
         self.addCleanup(shutil.rmtree, folder)
-        named, given = os.path.join(self.folder, "named.elf"), ["--source", folder]
+        named = os.path.join(self.folder, "named.elf")
+        given = ["--source", folder]
         with open(self.elf_file, "rb") as elf, open(named, "wb") as file:
             file.write(elf.read().replace(b"tests/crashes\0", folder.encode() + b"\0"))
         self.write(folder, NAME)
@@ -107,12 +117,15 @@ class SourcesTest(case.Case):
         os.remove(self.source)
         self.assertEqual(self.shows("--source", self.outside), (True, False))
         for word in ("why", "view", "race"):
-            self.assertIn("is no folder", self.refuses(4, word, self.log, self.elf_file, "--source", self.write(other, "file")))
+            self.assertIn("is no folder", self.refuses(4, word, self.log, self.elf_file,
+                                                       "--source", self.write(other, "file")))
 
     def test_races_have_the_same_sources(self):
         log, elf = self.crash("race_list")
-        self.log, self.elf_file = shutil.copy(log, self.folder), shutil.copy(elf, self.folder)
-        self.text = common.text_of(os.path.join(common.CRASHES, "race_list.c")).replace(";", f"; /* {SECRET} */")
+        self.log = shutil.copy(log, self.folder)
+        self.elf_file = shutil.copy(elf, self.folder)
+        self.text = common.text_of(os.path.join(common.CRASHES,
+                                                "race_list.c")).replace(";", f"; /* {SECRET} */")
         outside = self.write(self.outside, "race_list.c")
         os.symlink(outside, os.path.join(self.folder, "race_list.c"))
         said = self.says_of("race")
@@ -122,19 +135,28 @@ class SourcesTest(case.Case):
 
     def test_switches_and_partings_have_the_same_sources(self):
         bad, elf = self.crash("race_list")
-        good, elf = common.record("good", elf, "--harts", "3", "--seed", "2", "--limit", "300000"), shutil.copy(elf, self.folder)
-        self.text = common.text_of(os.path.join(common.CRASHES, "race_list.c")).replace("\n", f" /* {SECRET} */\n")
-        os.symlink(self.write(self.outside, "race_list.c"), os.path.join(self.folder, "race_list.c"))
+        good = common.record("good", elf, "--harts", "3", "--seed", "2", "--limit", "300000")
+        elf = shutil.copy(elf, self.folder)
+        self.text = common.text_of(os.path.join(common.CRASHES,
+                                                "race_list.c")).replace("\n", f" /* {SECRET} */\n")
+        os.symlink(self.write(self.outside, "race_list.c"),
+                   os.path.join(self.folder, "race_list.c"))
         short = common.path("short")
-        for words in (["shrink", "--seconds", "2", bad, elf, bad[:-4] + ".book", short, short + ".book"], ["compare", good, bad, elf]):
-            for given, expected in (([], (False, True)), (["--source", self.outside], (True, False))):
+        for words in (["shrink", "--seconds", "2", bad, elf, bad[:-4] + ".book", short,
+                       short + ".book"], ["compare", good, bad, elf]):
+            for given, expected in (([], (False, True)),
+                                    (["--source", self.outside], (True, False))):
                 status, said, err = common.companion(*words, *given, bound=BOUND)
-                self.assertEqual((status, (SECRET in said, "--source DIR allows" in said)), (0, expected), (said, err))
+                self.assertEqual((status, (SECRET in said, "--source DIR allows" in said)),
+                                 (0, expected), (said, err))
 
     def test_a_suspect_of_many_logs(self):
-        for target, is_shown in ((self.write(self.outside, "other.c"), False), (self.write(self.folder, "real.c"), True)):
+        for target, is_shown in ((self.write(self.outside, "other.c"), False),
+                                 (self.write(self.folder, "real.c"), True)):
             os.symlink(target, self.source)
-            status, said, err = common.companion("triage", self.folder, "--elfs", self.folder, bound=BOUND,
-                                                 environment={"XDG_CACHE_HOME": common.path("cache")})
-            self.assertEqual((status, err, "suspect:" in said, SECRET in said), (0, "", True, is_shown), said)
+            status, said, err = common.companion(
+                "triage", self.folder, "--elfs", self.folder, bound=BOUND,
+                environment={"XDG_CACHE_HOME": common.path("cache")})
+            self.assertEqual((status, err, "suspect:" in said, SECRET in said),
+                             (0, "", True, is_shown), said)
             os.remove(self.source)

@@ -1,4 +1,5 @@
-"""`triage`: a folder with equal, different, damaged, forged and foreign files; its forms; what a log may take."""
+"""`triage`: a folder with equal, different, damaged, forged and foreign files; its forms; what a
+log may take."""
 import hashlib
 import json
 import os
@@ -17,7 +18,10 @@ from common import COMPANION, CRASHES, PROGRAM, TOP, companion, content, path, w
 from companion.call.errors import FOUND
 from companion.triage import pool as triage_pool, work as triage_work
 
-USED, FREED, LARGE = "use_after_free", "double_free", "libc_scale"      # the log of the last has several blocks
+# The log of the last has several blocks
+USED = "use_after_free"
+FREED = "double_free"
+LARGE = "libc_scale"
 
 
 def with_flipped(data, at):
@@ -28,7 +32,8 @@ class Fleet:
     """A folder of logs and one of programs. Each log's date is its place in `names`."""
 
     def __init__(self, name):
-        self.logs, self.elfs = path(name + "/logs"), path(name + "/elfs")
+        self.logs = path(name + "/logs")
+        self.elfs = path(name + "/elfs")
         self.cache = dict(XDG_CACHE_HOME=path(name + "/cache"))
         self.names = []
         os.makedirs(self.elfs)
@@ -46,8 +51,8 @@ class Fleet:
 
     def answer(self, *more, status=0, environment=None):
         saved = os.path.join(self.elfs, "..", "answer")
-        found, said, err = companion("triage", self.logs, "--elfs", self.elfs, "--json", saved, *more,
-                                     environment={**self.cache, **(environment or {})})
+        found, said, err = companion("triage", self.logs, "--elfs", self.elfs, "--json", saved,
+                                     *more, environment={**self.cache, **(environment or {})})
         assert (found, err) == (status, ""), (found, err)
         return json.loads(content(saved)), said
 
@@ -67,7 +72,8 @@ class TriageTest(case.Case):
         if not common.present_tools():
             raise unittest.SkipTest("no addr2line is installed")
         cls.fleet = fleet = Fleet("fleet")
-        used, freed = common.crash(USED)[0], common.crash(FREED)[0]
+        used = common.crash(USED)[0]
+        freed = common.crash(FREED)[0]
         for name in (USED, FREED, LARGE):
             fleet.elf(name)
         fleet.add("first.log", used)
@@ -79,7 +85,8 @@ class TriageTest(case.Case):
         fleet.add("no_elf.log", common.crash("null_route")[0])
         fleet.add("stuck.log", forged.stuck(common.example("counter")))
         shutil.copy(common.example("counter"), fleet.elfs)
-        for name, data in (("README", b"text"), ("empty.log", b""), ("a.elf", content(common.example("sort")))):
+        for name, data in (("README", b"text"), ("empty.log", b""),
+                           ("a.elf", content(common.example("sort")))):
             written(os.path.join(fleet.logs, name), data)
         cls.before = {name: content(name) for name in fleet.names}
         cls.answer, cls.said = fleet.answer("--junit", path("junit"), "--html", path("table.html"))
@@ -87,19 +94,26 @@ class TriageTest(case.Case):
     def test_counts(self):
         groups = {one["line"]: one for one in self.answer["buckets"]}
         names = [os.path.relpath(name, self.fleet.logs) for name in self.fleet.names]
-        lines = [bucket(name, os.path.join(self.fleet.elfs, elf + ".elf")) for name, elf in zip(self.fleet.names, (USED, FREED))]
+        lines = [bucket(name, os.path.join(self.fleet.elfs, elf + ".elf"))
+                 for name, elf in zip(self.fleet.names, (USED, FREED))]
         self.assertEqual([groups[line]["count"] for line in lines], [2, 1])
-        self.assertEqual((self.answer["logs"], self.answer["others"], self.answer["causes"]), (len(names), 3, 3))
+        self.assertEqual((self.answer["logs"], self.answer["others"], self.answer["causes"]),
+                         (len(names), 3, 3))
         first = groups[lines[0]]
-        self.assertEqual((first["first"]["log"], first["last"]["log"]), (self.fleet.names[0], self.fleet.names[2]))
-        self.assertEqual((first["first"]["time"], first["last"]["time"]), ("2001-09-09T01:46:40Z", "2001-09-11T01:46:40Z"))
-        self.assertEqual((first["harts"], first["salvaged"], first["elf"]), ([1], 0, os.path.join(self.fleet.elfs, USED + ".elf")))
+        self.assertEqual((first["first"]["log"], first["last"]["log"]),
+                         (self.fleet.names[0], self.fleet.names[2]))
+        self.assertEqual((first["first"]["time"], first["last"]["time"]),
+                         ("2001-09-09T01:46:40Z", "2001-09-11T01:46:40Z"))
+        self.assertEqual((first["harts"], first["salvaged"], first["elf"]),
+                         ([1], 0, os.path.join(self.fleet.elfs, USED + ".elf")))
         self.assertEqual({name: content(name) for name in self.fleet.names}, self.before)
 
     def test_a_salvaged_log(self):
         found, = [one for one in self.answer["buckets"] if one["salvaged"]]
-        self.assertEqual((found["reason"], found["count"], found["example"]), ("LoadMisaligned", 1, self.fleet.names[3]))
-        script = found["command"].replace("zelkuma why", f"{sys.executable} {COMPANION} why").replace("zelkuma ", PROGRAM + " ")
+        self.assertEqual((found["reason"], found["count"], found["example"]),
+                         ("LoadMisaligned", 1, self.fleet.names[3]))
+        script = found["command"].replace("zelkuma why", f"{sys.executable} {COMPANION} "
+                                          "why").replace("zelkuma ", PROGRAM + " ")
         done = subprocess.run(["sh", "-c", script], stdout=subprocess.PIPE, check=False)
         os.remove(self.fleet.names[3] + ".salvaged")
         self.assertEqual((done.returncode, b"SUSPECTS" in done.stdout), (0, True))
@@ -120,31 +134,39 @@ class TriageTest(case.Case):
         self.assertEqual(words[:2], ["zelkuma", "why"])
         told = json.loads(self.says(*words[1:], "--json"))["suspects"][0]
         self.assertTrue(first["suspect"].startswith(
-            "%s %s %s:%d" % (told["did"], *(told["guilty"]["place"][key] for key in ("function", "file", "line")))), first)
+            "%s %s %s:%d" % (told["did"], *(told["guilty"]["place"][key]
+                                            for key in ("function", "file", "line")))), first)
 
     def test_the_first_memory_error(self):
         """It is the one that `memory` tells first, and stands before the suspect."""
-        fleet, name = Fleet("errors"), "libc_end_of_block"
+        fleet = Fleet("errors")
+        name = "libc_end_of_block"
         fleet.add("bad.log", common.crash(name)[0])
         answer, said = fleet.answer() if fleet.elf(name) else ({}, "")
-        found = json.loads(self.says("memory", fleet.names[0], os.path.join(CRASHES, name + ".elf"), "--json"))["findings"][0]
+        found = json.loads(self.says("memory", fleet.names[0], os.path.join(CRASHES, name + ".elf"),
+                                     "--json"))["findings"][0]
         place = found["calls"][0]
-        told = f"{found['kind']}: {found['text']}, in {place['function']} {place['file']}:{place['line']}"
+        told = (f"{found['kind']}: {found['text']}, "
+                f"in {place['function']} {place['file']}:{place['line']}")
         self.assertTrue(answer["buckets"][0]["memory_error"].startswith(told), answer)
         self.assertLess(said.index("  memory error: " + told), said.index("  suspect: "))
-        self.assertEqual({one["memory_error"] for one in self.answer["buckets"] if one["function"] != "-" and FREED in one["place"]}, {""})
+        self.assertEqual({one["memory_error"] for one in self.answer["buckets"]
+                          if one["function"] != "-" and FREED in one["place"]}, {""})
 
     def test_the_text(self):
         lines = self.said.split("\n")
         self.assertEqual(lines[0], "8 logs: 3 causes, 1 salvaged, 4 not read, 3 other files")
         first, = [one for one in self.answer["buckets"] if one["count"] == 2]
         at = lines.index(f"2  {first['line']}")
-        self.assertEqual(lines[at + 2:at + 4], [f"  suspect: {first['suspect']}", "  " + first["command"]])
-        self.assertRegex(lines[at + 1], r"^  harts 1; 2001-09-\d\d \d\d:\d\d \S+first.log to 2001-09-1\d \d\d:\d\d \S+<b>.log$")
+        self.assertEqual(lines[at + 2:at + 4],
+                         [f"  suspect: {first['suspect']}", "  " + first["command"]])
+        self.assertRegex(lines[at + 1], r"^  harts 1; 2001-09-\d\d \d\d:\d\d \S+first.log to "
+                         r"2001-09-1\d \d\d:\d\d \S+<b>.log$")
 
     def test_junit(self):
         suite = xml.etree.ElementTree.fromstring(content(path("junit")))
-        self.assertEqual((suite.get("tests"), suite.get("failures"), suite.get("errors")), ("6", "3", "3"))
+        self.assertEqual((suite.get("tests"), suite.get("failures"), suite.get("errors")),
+                         ("6", "3", "3"))
         names = {one.get("name") for one in suite if one.find("failure") is not None}
         self.assertEqual(names, {one["line"] for one in self.answer["buckets"]})
 
@@ -156,13 +178,16 @@ class TriageTest(case.Case):
         self.assertIn("&lt;b&gt;.log", page)
 
     def test_names_of_any_bytes(self):
-        """A name that the program doesn't take is told, and none gets into a terminal or the XML as it is."""
-        fleet, log = Fleet("names"), common.crash(USED)[0]
+        """A name that the program doesn't take is told, and none gets into a terminal or the XML as
+        it is."""
+        fleet = Fleet("names")
+        log = common.crash(USED)[0]
         fleet.elf(USED)
         name = fleet.add("$(x) & '<\"y\">'.log", log)
         other = fleet.add(os.fsdecode(b"\x1b[1m\n\xff.log"), log)
         answer, said = fleet.answer("--junit", path("names/junit"))
-        self.assertEqual((answer["buckets"][0]["example"], answer["unread"][0]["first"]["log"]), (name, other))
+        self.assertEqual((answer["buckets"][0]["example"], answer["unread"][0]["first"]["log"]),
+                         (name, other))
         self.assertEqual(shlex.split(answer["buckets"][0]["command"])[2], name)
         self.assertNotIn("\x1b", said)
         xml.etree.ElementTree.fromstring(content(path("names/junit")))
@@ -174,9 +199,12 @@ class TriageTest(case.Case):
         fleet.add("log", common.record("exit", fails, "--seed", "1"))
         fleet.add("well", common.record("well", fleet.elf("wrong_total"), "--seed", "1"))
         answer, said = fleet.answer("--junit", path("exits/junit"))
-        self.assertEqual([(one["reason"], one["suspect"]) for one in answer["buckets"]], [("exit", "")])
-        self.assertEqual((answer["good"], said.split("\n")[0]), (1, "2 logs: 1 cause, 1 ended well"))
-        self.assertEqual(xml.etree.ElementTree.fromstring(content(path("exits/junit"))).get("failures"), "0")
+        self.assertEqual([(one["reason"], one["suspect"]) for one in answer["buckets"]],
+                         [("exit", "")])
+        self.assertEqual((answer["good"], said.split("\n")[0]),
+                         (1, "2 logs: 1 cause, 1 ended well"))
+        self.assertEqual(
+            xml.etree.ElementTree.fromstring(content(path("exits/junit"))).get("failures"), "0")
 
     def test_a_gate(self):
         """With --fail no run that ended badly is a success, nor is a log that can't be read."""
@@ -192,22 +220,27 @@ class TriageTest(case.Case):
         fleet.answer("--fail", status=FOUND)
 
     def test_the_cache(self):
-        """Digests are remembered; a cache that is gone, broken or can't be saved changes nothing."""
+        """Digests are remembered; a cache that is gone, broken or can't be saved changes
+        nothing."""
         cache = os.path.join(self.fleet.cache["XDG_CACHE_HOME"], "zelkuma", "elfs.json")
         known = json.loads(content(cache))["files"]
         for name in (USED, FREED):
             elf = os.path.join(self.fleet.elfs, name + ".elf")
-            self.assertEqual(known[os.path.abspath(elf)][-1], hashlib.sha256(content(elf)).hexdigest())
+            self.assertEqual(known[os.path.abspath(elf)][-1],
+                             hashlib.sha256(content(elf)).hexdigest())
         counts = [one["count"] for one in self.answer["buckets"]]
         for data in (b"{", b"[]", b'{"files": {"a": 7}}', b'{"files": 7}'):
             written(cache, data)
             self.assertEqual([one["count"] for one in self.fleet.answer()[0]["buckets"]], counts)
-        self.assertEqual([one["count"] for one in self.fleet.answer(environment={"XDG_CACHE_HOME": "/dev/null"})[0]["buckets"]], counts)
+        self.assertEqual([one["count"] for one in self.fleet.answer(
+                              environment={"XDG_CACHE_HOME": "/dev/null"})[0]["buckets"]], counts)
 
     def test_another_program_in_the_place_of_one(self):
-        """It has the same size and time, as of an archive; digests aren't those that are remembered."""
+        """It has the same size and time, as of an archive; digests aren't those that are
+        remembered."""
         fleet = Fleet("exchanged")
-        elf, log = fleet.elf(USED), common.crash(USED)[0]
+        elf = fleet.elf(USED)
+        log = common.crash(USED)[0]
         fleet.add("log", log)
         about = os.stat(elf)
         self.assertEqual(len(fleet.answer()[0]["buckets"]), 1)
@@ -219,7 +252,8 @@ class TriageTest(case.Case):
     def test_a_program_that_was_built_anew(self):
         """What is remembered of a file holds no longer once that is another."""
         fleet = Fleet("anew")
-        elf, log = fleet.elf(USED), common.crash(USED)[0]
+        elf = fleet.elf(USED)
+        log = common.crash(USED)[0]
         fleet.add("log", log)
         self.assertEqual(len(fleet.answer()[0]["buckets"]), 1)
         shutil.copy(os.path.join(CRASHES, "hang.elf"), elf)
@@ -235,8 +269,10 @@ class TriageTest(case.Case):
                 ("a device for --elfs", 3, [self.fleet.logs, "--elfs", "/dev/null"]),
                 ("a pipe for --elfs", 3, [self.fleet.logs, "--elfs", path("pipe")]),
                 ("no log", 4, [CRASHES, "--elfs", self.fleet.elfs]),
-                ("a log as the answer", 2, [self.fleet.logs, "--elfs", self.fleet.elfs, "--json", log]),
-                ("an ELF file as the page", 2, [self.fleet.logs, "--elfs", self.fleet.elfs, "--html", common.example("sort")])):
+                ("a log as the answer", 2,
+                 [self.fleet.logs, "--elfs", self.fleet.elfs, "--json", log]),
+                ("an ELF file as the page", 2,
+                 [self.fleet.logs, "--elfs", self.fleet.elfs, "--html", common.example("sort")])):
             self.refused(what, status, "", "triage", *words, environment=self.fleet.cache)
         self.assertEqual(content(log), self.before[log])
 
@@ -257,7 +293,8 @@ class LimitsTest(unittest.TestCase):
 
     def script(self, line):
         """A program that does something else for one log."""
-        name = written(path("script.sh"), f"#!/bin/bash\n[[ $* != *joint*odd* ]] || {{ {line}; }}\nexec {PROGRAM} \"$@\"\n".encode())
+        name = written(path("script.sh"), f"#!/bin/bash\n[[ $* != *joint*odd* ]] || {{ {line}; }}\n"
+                       f"exec {PROGRAM} \"$@\"\n".encode())
         os.chmod(name, 0o755)
         os.environ["ZELKUMA_PROGRAM"] = name
         self.addCleanup(os.environ.__setitem__, "ZELKUMA_PROGRAM", PROGRAM)
@@ -278,7 +315,8 @@ class LimitsTest(unittest.TestCase):
 
         self.change(triage_work.Work, "bucket", spins)
         self.change(triage_work, "MOST_SECONDS", 0.2)
-        self.assertEqual(self.states(), [("read", ""), ("read", ""), ("unread", triage_work.TOO_LONG)])
+        self.assertEqual(self.states(),
+                         [("read", ""), ("read", ""), ("unread", triage_work.TOO_LONG)])
 
     def test_memory(self):
         self.script(f"exec {sys.executable} -c 'bytearray(1 << 29)' 2>/dev/null || exit 9")
@@ -298,7 +336,8 @@ class LimitsTest(unittest.TestCase):
     def test_memory_of_its_own(self):
         work = triage_work.Work()
         self.change(work, "bucket", lambda _task: bytearray(1 << 40))
-        self.assertEqual(work.answer(self.tasks[0]), triage_work.Answer(triage_work.UNREAD, triage_work.TOO_LARGE))
+        self.assertEqual(work.answer(self.tasks[0]),
+                         triage_work.Answer(triage_work.UNREAD, triage_work.TOO_LARGE))
 
     def test_a_program_that_says_nothing(self):
         self.script("exec sleep 600")
@@ -306,7 +345,8 @@ class LimitsTest(unittest.TestCase):
         self.assertEqual(self.states(), [("read", ""), ("read", ""), ("unread", triage_pool.STUCK)])
 
     def test_a_program_that_is_slow_on_a_busy_machine(self):
-        """It gets little of the processor, and is done after a time that would be too long for one that stands still."""
+        """It gets little of the processor, and is done after a time that would be too long for one
+        that stands still."""
         busy = "for ((n = 0; n < 30000; n++)); do :; done"
         self.script("for i in {1..30}; do %s; sleep 0.3; done; exec %s \"$@\"" % (busy, PROGRAM))
         self.change(triage_pool, "PATIENCE", 6.0)
@@ -328,22 +368,29 @@ class LimitsTest(unittest.TestCase):
 
 class SeedsTest(case.Case):
     def test_parts_by_parallel(self):
-        """The parts of a search, over a list of machines that has this one alone, are joined to what the whole finds."""
+        """The parts of a search, over a list of machines that has this one alone, are joined to
+        what the whole finds."""
         if not shutil.which("parallel") or b"GNU" not in subprocess.run(
-                ["parallel", "--version"], stdout=subprocess.PIPE, stderr=subprocess.DEVNULL, check=False).stdout:
+                ["parallel", "--version"], stdout=subprocess.PIPE,
+                stderr=subprocess.DEVNULL, check=False).stdout:
             self.skipTest("GNU parallel isn't installed")
-        elf, search = common.example("hand_over"), [sys.executable, COMPANION, "seeds", "--only", "seeds,bursts"]
+        elf = common.example("hand_over")
+        search = [sys.executable, COMPANION, "seeds", "--only", "seeds,bursts"]
         words = ["1", "12", "--", "--harts", "2", elf]
         for folder in ("whole", "found"):
             os.mkdir(path(folder))
-        subprocess.run([*search, "--all", path("whole/0"), *words], stdout=subprocess.DEVNULL, check=True)
-        command = " ".join(map(shlex.quote, search + ["--all", path("found/{}"), "--part", "{}/3"] + words))
-        machines = written(path("MACHINES"), b":\n")
-        subprocess.run(["parallel", "--will-cite", "--jobs", "1", "--sshloginfile", machines, command, ":::", "1", "2", "3"],
+        subprocess.run([*search, "--all", path("whole/0"), *words],
                        stdout=subprocess.DEVNULL, check=True)
+        command = " ".join(map(shlex.quote,
+                               search + ["--all", path("found/{}"), "--part", "{}/3"] + words))
+        machines = written(path("MACHINES"), b":\n")
+        subprocess.run(["parallel", "--will-cite", "--jobs", "1", "--sshloginfile", machines,
+                        command, ":::", "1", "2", "3"], stdout=subprocess.DEVNULL, check=True)
         lines = []
         for folder in ("whole", "found"):
-            self.says("triage", path(folder), "--elfs", os.path.join(TOP, "examples"), "--json", path(folder + ".json"))
-            lines.append({one["line"] for one in json.loads(content(path(folder + ".json")))["buckets"]})
+            self.says("triage", path(folder), "--elfs", os.path.join(TOP, "examples"),
+                      "--json", path(folder + ".json"))
+            lines.append({one["line"]
+                          for one in json.loads(content(path(folder + ".json")))["buckets"]})
         self.assertEqual(lines[0], lines[1])
         self.assertGreater(len(lines[0]), 1)
