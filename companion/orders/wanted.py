@@ -12,7 +12,7 @@ LARGEST_CODE = 255
 
 
 class Wanted(NamedTuple):
-    """text      as it was given
+    """text      as it was given, but that bytes of an output that are no UTF-8, and control characters, are shown as \\xNN
     statuses  those of a recording that can be meant
     code      the exit code, if one is asked for; output: what the program has to write
     is_bad    whether any end is meant but exit code 0"""
@@ -37,6 +37,10 @@ class Wanted(NamedTuple):
         return self.is_bad or self.statuses == (LIMIT,)
 
 
+def shown(output: bytes) -> str:
+    return "".join(c if c.isprintable() else ascii(c)[1:-1] for c in output.decode("utf-8", "backslashreplace"))
+
+
 def wanted_of(text: str) -> Wanted:
     kind, colon, rest = text.partition(":")
     if text == "bad":
@@ -45,7 +49,8 @@ def wanted_of(text: str) -> Wanted:
         code = whole(rest, 0, LARGEST_CODE, "the N of --until exit:N")
         return Wanted(f"exit:{code}", (DONE,), code)
     if colon and kind == "output" and rest:
-        return Wanted(text, ENDS, output=rest.encode("utf-8", "surrogateescape"))
+        output = rest.encode("utf-8", "surrogateescape")
+        return Wanted(f"output:{shown(output)}", ENDS, output=output)
     if text.isdigit() and whole(text, 0, LARGEST_CODE, "--until") in ENDS:
         return Wanted(str(int(text)), (int(text),))
     raise CompanionError(f"--until has to be one of {FORMS}, not {text!r}", REFUSED)

@@ -113,6 +113,11 @@ def case_exit_codes_and_outputs(recordings):
         said = seeds("--only", "seeds", "--until", until, *words)
         assert first_line(said) == (0, f"seed {first}: {until}"), (said, plain)
         assert again(said[1]) == 0
+    for output, told in ((b"y\xff\n\x1b", r"output:y\xff\n\x1b"), ("ä".encode(), "output:ä")):
+        until = "output:" + os.fsdecode(output)     # the words of a call can be any bytes
+        done = seeds("--only", "seeds", "--until", until, *words)
+        assert done[0] == NOT_FOUND and done[2] == f"zelkuma: none of seeds from 1 to 30 ends with {told}\n", done
+        assert json.loads(seeds("--only", "seeds", "--until", until, "--json", *words)[1])["until"] == told
     assert first_line(seeds("--only", "seeds", "--until", "bad", *words)) == (0, f"seed 1: exit:{plain[1][0]}")
     done = seeds("--only", "seeds", "--all", folder.path, *words[:-2])
     assert sorted(row[3] for row in rows(done[1])) == ["exit 110", "exit 121"], done
