@@ -19,7 +19,8 @@ from .types import Leaf, Type, bounded, leaves, value_text
 from .window import Window
 
 LINE = re.compile(r"[\w./+@-]+:\d{1,7}")
-MISTAKES = re.compile(r"No symbol|no member|syntax error|No type|No struct|No union|No enum|Invalid|Attempt to|ncast|Argument to")
+MISTAKES = re.compile(r"No symbol|no member|syntax error|No type|No struct|No union|No enum|Invalid|Attempt to|ncast|Argument to|"
+                      r"not scalar|no component|Can't do|is a function")
 LONGEST_TEXT, MOST_PARTS, MOST_EXPRESSIONS = 60, 12, 32
 LOWEST = 4096               # no address below is mapped
 PC = len(NAMES)             # gdb's number of the program counter

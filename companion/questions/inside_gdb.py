@@ -148,6 +148,8 @@ def compiled(spec: str, places: list[int], expression: str) -> dict[str, Any]:
         check_functions(places[0], expression)
         found = type_at(places[0], expression)
         plain = found.strip_typedefs()
+        if plain.code == gdb.TYPE_CODE_FUNC:
+            raise ValueError("it is a function, and not a value")
         is_whole = plain.code in WHOLE
         codes = dict(bytecode(spec, f"&({expression})" if is_whole else expression))
         letters = plain.target().strip_typedefs() if plain.code in (gdb.TYPE_CODE_PTR, gdb.TYPE_CODE_ARRAY) else None

@@ -94,6 +94,11 @@ class AtTest(case.Case):
         for words in ("&orders = 00011498 <orders>", "(int (*)(int))0x103a8 = 000103a8 <main+608>", "[2])(char))&orders = 00011498 <orders>",
                       "&main = <gdb doesn't compile &main>", "&(main) == 0 = <gdb doesn't compile &main>", "1 && text = 1"):
             self.assertIn(words, said)
+        for text, why in (("main", "main: it is a function, and not a value"),
+                          ("*main", "Attempt to take contents of a non-pointer"),
+                          ("*orders[0] == *orders[1]", "no component named operator=="),
+                          ("text + *orders[0]", "Can't do that")):
+            self.assertIn(why, self.refuses(2, "at", log, elf, "heap.c:75", text))
 
     def test_an_enumeration_below_0(self):
         if not shutil.which("riscv64-unknown-elf-gcc"):
