@@ -1,6 +1,9 @@
-"""Programs with a known race, and what mends each: changes of its source, true ones and half ones,
-built as the examples are."""
+"""Programs with a known race, and what mends each: changes of its source, built as the examples are.
+
+In the folder mended/ NAME.mended.diff is a true fix, and NAME.half.diff one by which some orders
+still end badly."""
 import os
+import re
 import shutil
 import subprocess
 from typing import NamedTuple
@@ -8,77 +11,76 @@ from typing import NamedTuple
 import common
 
 COMPILER = "riscv64-unknown-elf-gcc"
-FLAGS = ("-march=rv32ima", "-mabi=ilp32", "-mstrict-align", "-g", "-ffreestanding",
-         "-fno-pic", "-fno-tree-loop-distribute-patterns", "-nostdlib", "-static", "-z",
-         "max-page-size=4096", "-Wl,--build-id=none")
+FLAGS = ("-march=rv32ima", "-mabi=ilp32", "-mstrict-align", "-g", "-ffreestanding", "-fno-pic",
+         "-fno-tree-loop-distribute-patterns", "-nostdlib", "-static", "-z", "max-page-size=4096",
+         "-Wl,--build-id=none")
 LIB = os.path.join(common.EXAMPLES, "lib")
+HERE = os.path.dirname(os.path.abspath(__file__))
+DIFFS = os.path.join(HERE, "mended")
+MOVED = "moved"             # a change that gives each line another number
 
 
 class Program(NamedTuple):
-    """The source, the options of a recording that ends badly, its turns, and {change: what is put
-    in place of what}."""
+    """The source, the options of a recording that ends badly, its turns, and
+    {change: what is put in place of what} of changes that have no diff."""
     source: str
     options: tuple
-    schedule: str
-    changes: dict
+    schedule: str = ""
+    changes: dict = {}
 
 
-HOLD = """    struct filter *filter = __atomic_load_n(&current, __ATOMIC_ACQUIRE);
-
-    __atomic_fetch_add(&filter->users, 1, __ATOMIC_ACQ_REL);   /* the bug: too late */
-    return filter;"""
 PROGRAMS = {
-    "filters": Program("examples/filters.c", ("--harts", "4", "--seed", "10", "--limit", "1000000"), "", {
-        "mended": {HOLD: """    lock(&pool_lock);
-    struct filter *filter = __atomic_load_n(&current, __ATOMIC_ACQUIRE);
-
-    __atomic_fetch_add(&filter->users, 1, __ATOMIC_ACQ_REL);
-    unlock(&pool_lock);
-    return filter;""",
-                   "    __atomic_store_n(&current, next, __ATOMIC_RELEASE);": """    lock(&pool_lock);
-    __atomic_store_n(&current, next, __ATOMIC_RELEASE);
-    unlock(&pool_lock);"""},
-        # It looks again after it has counted itself, and between the two the filter can be given back.
-        "half": {HOLD: """    struct filter *filter;
-
-    for (;;) {
-        filter = __atomic_load_n(&current, __ATOMIC_ACQUIRE);
-        __atomic_fetch_add(&filter->users, 1, __ATOMIC_ACQ_REL);
-        if (filter == __atomic_load_n(&current, __ATOMIC_ACQUIRE))
-            return filter;
-        drop(filter);
-    }""", "static struct filter *hold(void)\n": "static void drop(struct filter *filter);\n\nstatic struct filter *hold(void)\n"},
-        "moved": {"static void lock(": "/* A comment\n   that moves\n   all lines. */\nstatic void lock("},
+    "filters": Program("examples/filters.c", ("--harts=4", "--seed=10", "--limit=1000000"), "", {
         "renamed function": {"hold(": "hold_current("},
         "renamed variable": {"current": "installed"},
     }),
-    "two_locks": Program("examples/two_locks.c", ("--harts", "2", "--seed", "8", "--limit", "20000"), "", {
-        "mended": {"    take(&from->lock); /* the bug: both harts are to take the same lock first */\n    take(&to->lock);":
-                   "    take(&(from < to ? from : to)->lock);\n    take(&(from < to ? to : from)->lock);"},
-        "half": {"    take(&from->lock); /* the bug: both harts are to take the same lock first */\n    take(&to->lock);":
-                 "    take(&to->lock);\n    take(&from->lock);"},
-    }),
-    "prices": Program("examples/prices.c", ("--harts", "4", "--limit", "1000000"), "sleeper:1", {
-        "mended": {"""    do
-        list = __atomic_load_n(&announced, __ATOMIC_ACQUIRE);       /* the bug: before the test */
-    while (__atomic_load_n(&released, __ATOMIC_ACQUIRE) <= day);
-""": """    while (__atomic_load_n(&released, __ATOMIC_ACQUIRE) <= day)
-        ;
-    list = __atomic_load_n(&announced, __ATOMIC_ACQUIRE);
-"""}}),
-    "counter": Program("examples/counter.c", ("--harts", "2", "--seed", "2", "--limit", "100000"), "", {}),
-    "heap": Program("examples/heap.c", ("--harts", "1", "--seed", "1", "--limit", "1000000"), "", {}),
+    "buffers": Program("examples/buffers.c", ("--harts=4", "--limit=1048576"), "sleeper:20"),
+    "two_locks": Program("examples/two_locks.c", ("--harts=2", "--seed=8", "--limit=20000")),
+    "prices": Program("examples/prices.c", ("--harts=4", "--limit=1000000"), "sleeper:1"),
+    "counter": Program("examples/counter.c", ("--harts=2", "--seed=2", "--limit=100000")),
+    "heap": Program("examples/heap.c", ("--harts=1", "--seed=1", "--limit=1000000")),
+    "shelf": Program("tests/companions/lib/programs/shelf.c", ("--harts=2", "--seed=1")),
 }
+
+
+def program_of(name):
+    """One of those above, or of tests/crashes."""
+    if name in PROGRAMS:
+        return PROGRAMS[name]
+    return Program(f"tests/crashes/{name}.c", tuple(common.crashes()[name].options))
+
+
+def names():
+    """The programs that have a true and a half fix."""
+    return sorted({name.split(".")[0] for name in os.listdir(DIFFS)})
 
 
 def has_compiler():
     return shutil.which(COMPILER) is not None
 
 
+def changes_of(name, change):
+    """{a text of the source: what is put in its place}"""
+    known = program_of(name).changes
+    if change in known:
+        return known[change]
+    diff = common.text_of(os.path.join(DIFFS, f"{name}.{change}.diff"))
+    hunks = re.split(r"^@@.*\n", diff, flags=re.M)[1:]
+    return {part_of(hunk, " -"): part_of(hunk, " +") for hunk in hunks}
+
+
+def part_of(hunk, kinds):
+    """The old or the new lines of a diff's hunk."""
+    return "".join(line[1:] for line in hunk.splitlines(True) if line[0] in kinds)
+
+
 def source_of(name, change=""):
-    text = common.text_of(os.path.join(common.TOP, PROGRAMS[name].source))
-    for old, new in PROGRAMS[name].changes[change].items() if change else ():
-        assert old in text, (name, change, old)
+    text = common.text_of(os.path.join(common.TOP, program_of(name).source))
+    if change == MOVED:
+        comment = "/* A comment\n   that moves\n   all lines. */\n"
+        return re.sub(r"^(static|struct) ", comment + r"\1 ", text, 1, re.M)
+    for old, new in changes_of(name, change).items() if change else ():
+        assert text.count(old) == 1 or change not in ("mended", "half"), (name, change, old)
         text = text.replace(old, new)
     return text
 
@@ -89,17 +91,16 @@ def built(name, change="", level="-O2"):
     elf = os.path.join(folder, name + ".elf")
     if not os.path.exists(elf):
         source = common.written(os.path.join(folder, name + ".c"), source_of(name, change))
-        subprocess.run([COMPILER, *FLAGS, level, "-I", LIB, "-T",
-                        os.path.join(LIB, "program.ld"), "-o", elf, os.path.join(LIB, "start.S"),
-                        os.path.join(LIB, "machine.c"), source], check=True)
+        script, start, machine = (os.path.join(LIB, name) for name in ("program.ld", "start.S", "machine.c"))
+        subprocess.run([COMPILER, *FLAGS, level, "-I", LIB, "-I", common.CRASHES, "-T", script,
+                        "-o", elf, start, machine, source], check=True)
     return elf
 
 
-def recorded(name):
+def recorded(name, level="-O2"):
     """LOG, ELF and BOOK of the program as it is."""
-    program = PROGRAMS[name]
-    elf = built(name)
-    log = common.path(f"mended_{name}.log")
+    program, elf = program_of(name), built(name, level=level)
+    log = common.path(f"mended_{name}{level}.log")
     if not os.path.exists(log):
-        common.record("mended_" + name, elf, *program.options, schedule=program.schedule)
-    return log, elf, common.path(f"mended_{name}.book")
+        common.record(f"mended_{name}{level}", elf, *program.options, schedule=program.schedule)
+    return log, elf, common.path(f"mended_{name}{level}.book")
