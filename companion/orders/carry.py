@@ -91,13 +91,19 @@ class Carrier:
         return Step(mark, KEPT, found.how)
 
     def stuck(self, mark: Mark, spin: Spin, kept: List[Piece]) -> Step:
-        """A hart that nothing lets continue stops as it begins to wait."""
+        """A hart that nothing lets continue stops as it begins to wait. What it would have done then isn't known."""
         self.pieces = [*kept, Piece(mark.hart, spin.begin + 1)]
-        return Step(mark, FORBIDDEN, f"it can't come: hart {mark.hart} waits in {self.where(spin.row)} for "
-                    f"{self.runs.meaning.name(spin.word)}, which no other hart alone changes")
+        waits = (f"hart {mark.hart} waits in {self.where(spin.row)} for {self.runs.meaning.name(spin.word)}, "
+                 "which no other hart alone changes")
+        if not self.runs.meaning.has_object(mark.point.symbol):
+            return Step(mark, GONE, f"it has no object {mark.point.symbol}; {waits}")
+        return Step(mark, FORBIDDEN, f"it can't come: {waits}")
 
     def points(self, turns: Sequence[Turn]) -> List[Optional[Point]]:
         return self.runs.meaning.points(turns)
+
+    def find(self, turns: Sequence[Turn], mark: Mark) -> Optional[Found]:
+        return find(self.points(turns), mark, lambda at: self.runs.meaning.called(turns[at]))
 
     def where(self, row: Row) -> str:
         return self.runs.meaning.point(row).place()
@@ -108,7 +114,7 @@ class Carrier:
         most, begin = LEAST_TURNS, -1
         while True:
             turns = self.runs.turns(self.pieces, mark.hart, most)
-            found, spin = find(self.points(turns), mark), spinning(turns)
+            found, spin = self.find(turns, mark), spinning(turns)
             # A hart that waits still does in a longer look; a loop that computes is over then.
             is_sure = spin is not None and spin.begin == begin
             if found or is_sure or len(turns) < most or most >= MOST_TURNS:
@@ -123,8 +129,9 @@ class Carrier:
         harts = [piece.hart for piece in reversed(kept)] + list(range(self.order.harts))
         for hart in dict.fromkeys(each for each in harts if each != mark.hart):
             turns = self.runs.turns(waiting, hart, LEAST_TURNS)
-            for at, (row, _) in enumerate(turns):
-                if row and row.store and row.store.address & ~3 == spin.word and is_change(row):
+            for at, turn in enumerate(turns):
+                row = turn.row if turn.may_store(spin.word) else None
+                if row and is_change(row):
                     self.pieces = [*waiting, Piece(hart, at + 1)]
                     return self.runs.meaning.point(row)
         return None
@@ -137,10 +144,10 @@ def is_change(row: Row) -> bool:
 
 def spinning(turns: Sequence[Turn]) -> Optional[Spin]:
     """Whether a hart goes round and round at the end of its turns: since when, and what it looks at."""
-    tail = [turn.row for turn in turns[-SPIN_TURNS:] if turn.row]
+    tail = [row for row in (turn.row for turn in turns[-SPIN_TURNS:]) if row]
     if not tail or access_of(tail[-1]) in (CALL, FAULT):    # it has ended
         return None
-    code = {row.pc for row in tail}
+    code = {turn.pc for turn in turns[-SPIN_TURNS:] if turn.text}
     looks = [row for row in tail if row.load and "(sp)" not in row.text]
     values = {(row.load.address, row.load.value) for row in looks if row.load}
     if len(tail) < SPIN_TURNS - 1 or len(code) > SPIN_CODE or not looks or len(values) > 2 * SPIN_CODE:
@@ -152,6 +159,6 @@ def spinning(turns: Sequence[Turn]) -> Optional[Spin]:
     return Spin(begin, word, row)
 
 
-def is_in(turn: Turn, code: AbstractSet[int]) -> bool:
+def is_in(turn: Turn, code: AbstractSet[bytes]) -> bool:
     """Also of a turn that ended without an access."""
-    return turn.row is None or turn.row.pc in code
+    return not turn.text or turn.pc in code

@@ -2,7 +2,8 @@
 from __future__ import annotations
 
 import difflib
-from typing import Callable, Iterator, List, NamedTuple, Optional, Tuple
+from itertools import islice
+from typing import Callable, Dict, Iterator, List, NamedTuple, Optional, Tuple
 
 from ..call.text import counted
 from .marks import ATOMIC, NO_SYMBOL, STORE, Mark, Point, Points, count_of, on_line
@@ -17,13 +18,18 @@ class Found(NamedTuple):
     how: str
 
 
-def nth_of(points: Points, fits: Callable[[Point], bool], nth: int) -> Optional[int]:
+def all_of(points: Points, fits: Callable[[Point], bool]) -> Iterator[int]:
+    """The places of those that fit. Of turns there are few, and each many times."""
+    known: Dict[int, bool] = {id(None): False}
     for at, one in enumerate(points):
-        if one and fits(one):
-            nth -= 1
-            if not nth:
-                return at
-    return None
+        if one is not None and id(one) not in known:
+            known[id(one)] = fits(one)
+        if known[id(one)]:
+            yield at
+
+
+def nth_of(points: Points, fits: Callable[[Point], bool], nth: int) -> Optional[int]:
+    return next(islice(all_of(points, fits), nth - 1, None), None)
 
 
 def wanted_of(mark: Mark) -> List[Tuple[Point, int]]:
@@ -36,12 +42,13 @@ def other_accesses(wanted: Point) -> Tuple[str, ...]:
     return (STORE,) if wanted.access == ATOMIC else (ATOMIC,)
 
 
-def find(points: Points, mark: Mark) -> Optional[Found]:
-    """By its line, under its callers if it has some there."""
+def find(points: Points, mark: Mark, called: Callable[[int], Tuple[str, ...]]) -> Optional[Found]:
+    """By its line, under its callers if it has some there: `called` tells those of a turn."""
     for wanted, nth in wanted_of(mark):
         at = None
         if wanted.callers and wanted is mark.point:
-            at = nth_of(points, lambda one: is_there(one, wanted) and one.callers == wanted.callers, mark.under)
+            there = (one for one in all_of(points, lambda one: is_there(one, wanted)) if called(one) == wanted.callers)
+            at = next(islice(there, mark.under - 1, None), None)
         if at is None:
             at = nth_of(points, lambda one: is_there(one, wanted), nth)
         if at is None and wanted.symbol != NO_SYMBOL:

@@ -75,7 +75,7 @@ class Ended(NamedTuple):
     """How a run ended.
 
     kind    well, fault, limit, exit or output: the last two are wrong ones, by an exit code or by a byte of the output
-    reason  of a fault; point: its row
+    reason  of a fault; point: its row; caller: the line that called it, as a call or as inlined code
     value   the exit code, or the byte; place: that of the byte in the output"""
     kind: str
     reason: str = ""
@@ -83,15 +83,23 @@ class Ended(NamedTuple):
     waits: Waits = ()
     value: int = 0
     place: int = 0
+    caller: Optional[Point] = None
 
     def is_as(self, other: Ended) -> bool:
         """Whether two runs ended alike, also of two builds."""
         if self.kind == other.kind == FAULT:
-            is_here = self.point is None or other.point is None or self.point.is_line_of(other.point)
-            return is_here and self.reason == other.reason
+            return self.reason == other.reason and (self.is_here(other) or self.is_call_apart(other))
         if self.kind == other.kind == LIMIT:
             return not (self.waits and other.waits) or objects_of(self.waits) == objects_of(other.waits)
         return (self.kind, self.value, self.place) == (other.kind, other.value, other.place)
+
+    def is_here(self, other: Ended) -> bool:
+        return self.point is None or other.point is None or self.point.is_line_of(other.point)
+
+    def is_call_apart(self, other: Ended) -> bool:
+        """Whether the line of one fault called the other's. A build can do a function's load before it calls it."""
+        return any(line is not None and its is not None and line.is_line_of(its)
+                   for line, its in ((self.caller, other.point), (self.point, other.caller)))
 
     def text(self) -> str:
         if self.kind == FAULT:

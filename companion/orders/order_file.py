@@ -3,6 +3,7 @@
 A file that is written is read again to the same order, and that is written as the same bytes."""
 from __future__ import annotations
 
+import codecs
 import os
 import re
 from dataclasses import dataclass, field, replace
@@ -14,12 +15,12 @@ from ..call.files import check_regular
 from ..call.kinds import Kind
 from ..call.options import decimal
 from ..call.saving import Target, save_together, target
-from ..recording.log import MOST_HARTS
+from ..call.text import clean
 from .marks import EXIT, FAULT, LIMIT, NO_SYMBOL, OUTPUT, Ended, Mark, Order, Point, Power
-from .record import NUMBERS
+from .record import RANGES
 
 HEAD = "zelkuma order 1"
-NUMBERED = "zelkuma order "
+NUMBERED, FIRST_LINE = "zelkuma order ", 100    # what each version begins with; bytes that are looked at for it
 SUFFIX, INPUT_SUFFIX = ".order", ".input"
 # What a setting is that a file doesn't name; it stays so for files of this version.
 DEFAULTS = {"--format": "2", "--harts": "1", "--interval": "100000", "--limit": "1000000000",
@@ -27,6 +28,7 @@ DEFAULTS = {"--format": "2", "--harts": "1", "--interval": "100000", "--limit": 
 LARGEST, MOST_MARKS = 1 << 20, 1000         # bytes of a file, and switches in it
 LONGEST_TEXT, MOST_INPUT = 4096, 1 << 24    # bytes of an input that stands in the file; that record takes
 LARGEST_BYTE = 255
+LONGEST_NUMBER = 40                         # digits of a setting: 20, of which `G` makes ten more
 PART = 64                                   # bytes of an input in a line
 BARE = r'[^\s"|#<\\]+'
 WORD = rf'(?:"(?:[^"\\]|\\.)*"|{BARE})'
@@ -61,7 +63,11 @@ def word_of(name: str) -> str:
 
 
 def name_of(word: str) -> str:
-    return unquoted(word).decode()
+    """What a word names. ValueError if that would be no name on a terminal."""
+    name = unquoted(word).decode()
+    if not name.isprintable():
+        raise ValueError(f"a name has a control character: {name!r}")
+    return name
 
 
 def place_text(point: Point, counts: str = "") -> str:
@@ -91,7 +97,8 @@ def mark_lines(mark: Mark) -> List[str]:
 
 def end_lines(end: Ended) -> List[str]:
     if end.kind == FAULT:
-        return [f"end fault {end.reason}" + (f" in {place_text(end.point)}" if end.point else "")]
+        said = [f"end fault {end.reason}" + (f" in {place_text(end.point)}" if end.point else "")]
+        return said + ([f"  from {place_text(end.caller)}"] if end.caller else [])
     if end.kind == LIMIT:
         return ["end limit"] + ["  hart %d waits for %s" % (hart, " ".join(map(word_of, words)) if words else NO_SYMBOL)
                                 for hart, words in end.waits]
@@ -184,13 +191,14 @@ class Reading:
         settings: Dict[str, str] = {}
         for each in found["rest"].split():
             option, equals, value = each.partition("=")
-            if option not in NUMBERS or not equals or not re.fullmatch("[0-9]+", decimal(value)):
+            if option not in RANGES or not equals or not re.fullmatch("[0-9]+", decimal(value)):
                 self.refuse(f"{each} is no setting of record with a number, as --harts=4")
             self.once(option in settings, option)
+            low, high = RANGES[option]
             settings[option] = decimal(value)
-        harts = settings.get("--harts", "1")
-        if not 1 <= int(harts[:9]) <= MOST_HARTS:
-            self.refuse(f"--harts is 1 to {MOST_HARTS}, not {harts}")
+            # (Python makes no number of thousands of digits)
+            if len(settings[option]) > LONGEST_NUMBER or not low <= int(settings[option]) <= high:
+                self.refuse(f"{option} is {low} to {high}, not {value}")
         self.put(settings=settings)
 
     def input(self, found: Dict[str, str]) -> None:
@@ -218,6 +226,14 @@ class Reading:
     def fault(self, found: Dict[str, str]) -> None:
         point = place_of(FAULT, found) if found["function"] else None
         self.end(Ended(FAULT, found["reason"], point))
+        self.open = FAULT
+
+    def called_from(self, found: Dict[str, str]) -> None:
+        end = self.order.end
+        if self.open != FAULT or end is None:
+            self.refuse("it has to stand below 'end fault'")
+        self.once(end.caller is not None, "what called it")
+        self.put(end=end._replace(caller=place_of(FAULT, found)))
 
     def limit(self, _: Dict[str, str]) -> None:
         self.end(Ended(LIMIT))
@@ -286,7 +302,7 @@ class Reading:
 
 def place_of(access: str, found: Dict[str, str], symbol: str = NO_SYMBOL) -> Point:
     file, line = (name_of(found["file"]), int(found["line"])) if found["file"] else ("", 0)
-    return Point(access, symbol, name_of(found["function"]), file, line, found["text"] or "")
+    return Point(access, symbol, name_of(found["function"]), file, line, clean(found["text"] or ""))
 
 
 def point_of(found: Dict[str, str]) -> Point:
@@ -300,6 +316,7 @@ LINES: Tuple[Tuple[Pattern[str], Callable[[Reading, Dict[str, str]], None]], ...
     (r'input (?P<word>"(?:[^"\\]|\\.)*")', Reading.input),
     (rf"input-file (?P<word>{WORD})", Reading.input_file),
     (rf"end fault (?P<reason>[A-Za-z]+)(?: in {PLACE})?", Reading.fault),
+    (rf"  from {PLACE}", Reading.called_from),
     (r"end limit", Reading.limit),
     (rf"  hart {HART} waits for (?P<rest>{WORD}(?: {WORD})*)", Reading.waits),
     (r"end exit (?P<value>[1-9][0-9]{0,9})", Reading.exit),
@@ -327,17 +344,33 @@ def take_line(reading: Reading, line: str) -> None:
     raise ValueError("it is no line of an order")
 
 
-def read_order(name: str) -> Order:
+def why_none(data: bytes) -> str:
+    """Why a file is no order, by its beginning, as far as that tells it."""
+    first = data[:FIRST_LINE].split(b"\n")[0].rstrip(b"\r")
+    if data.startswith((codecs.BOM_UTF8, codecs.BOM_UTF16_LE, codecs.BOM_UTF16_BE)):
+        return "it begins with a byte order mark: it has to be saved as UTF-8 without one"
+    if not data.startswith(NUMBERED.encode()):
+        return f"its first line has to be '{HEAD}'"
+    if first != HEAD.encode():
+        return f"its first line has to be '{HEAD}'; it is of another version than {HEAD[len(NUMBERED):]}"
+    return f"it has over {LARGEST} bytes" if len(data) > LARGEST else "it isn't UTF-8"
+
+
+def lines_of(name: str) -> List[str]:
     check_regular(name)
     with open(name, "rb") as file:
         data = file.read(LARGEST + 1)
     try:
         lines = data.decode().split("\n")
     except UnicodeDecodeError:
-        lines = []
-    if len(data) > LARGEST or not lines or lines[0].rstrip("\r") != HEAD:
-        newer = f"; it is of another version than {HEAD[len(NUMBERED):]}" if data.startswith(NUMBERED.encode()) else ""
-        raise CompanionError(f"{name} is no order of harts: its first line has to be '{HEAD}'{newer}", REFUSED)
+        lines = [""]
+    if len(data) > LARGEST or lines[0].rstrip("\r") != HEAD:
+        raise CompanionError(f"{name} is no order of harts: {why_none(data)}", REFUSED)
+    return lines
+
+
+def read_order(name: str) -> Order:
+    lines = lines_of(name)
     reading = Reading(name)
     for number, line in enumerate(lines[1:], 2):
         try:

@@ -15,10 +15,15 @@ from ..call.kinds import LOG, TURNS
 from ..call.options import decimal, parse
 from ..call.saving import Target, target
 from ..call.scratch import Scratch
+from ..recording.log import MOST_HARTS
 
 RECORD_FORM = "[OPTION..] ELF LOG BOOK, as for record, but for --seed"
 ELF_FORM = "[OPTION..] ELF, as for record, but for --seed; with --all no LOG and BOOK are named"
-NUMBERS = "--format --harts --interval --limit --log-size --memory --sets --ways --line --sets2 --ways2".split()
+# What `record` takes at least and at most for each. Some have to be powers of two or the like too, which it tests itself.
+RANGES = {"--format": (1, 2), "--harts": (1, MOST_HARTS), "--interval": (1, 10000000), "--limit": (1, 1 << 40),
+          "--log-size": (1 << 14, 1 << 28), "--memory": (1 << 16, 1 << 26), "--sets": (1, 1024), "--ways": (1, 16), "--line": (1, 16),
+          "--sets2": (1, 4096), "--ways2": (1, 16)}
+NUMBERS = list(RANGES)
 RECORD_OPTIONS = {"--lean": False, "--seed": True, "--input": True, **{name: True for name in NUMBERS}}
 SCHEDULE = "ZELKUMA_SCHEDULE"   # the name in the environment of the turns that a recording without a seed takes
 ENDS = DONE, FAULT, LIMIT = 0, 10, 11   # the statuses of recordings that were made
@@ -105,6 +110,7 @@ class Quick:
     def __init__(self, folder: str) -> None:
         self.folder = folder
         self.group: Group
+        self.environment = {name: value for name, value in os.environ.items() if name != SCHEDULE}
 
     def __enter__(self) -> Quick:
         self.group = Group()
@@ -115,8 +121,8 @@ class Quick:
 
     def start(self, said: str, err: str, *words: str, schedule: str = "") -> Process:
         """A command, by these turns if it is `record`; without them its harts run in threads, whatever is set for this process."""
-        environment = {name: value for name, value in os.environ.items() if name != SCHEDULE}
-        return self.group.start([program.path(), *words], said, err, {**environment, SCHEDULE: schedule} if schedule else environment)
+        environment = {**self.environment, SCHEDULE: schedule} if schedule else self.environment
+        return self.group.start([program.path(), *words], said, err, environment)
 
     def text(self, *words: str) -> bytes:
         said, err = (os.path.join(self.folder, name) for name in ("text", "text.err"))

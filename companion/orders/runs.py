@@ -10,6 +10,7 @@ from typing import Deque, Dict, Iterator, List, Mapping, NamedTuple, Optional, S
 from ..call import streams
 from ..call.children import Process
 from ..call.jobs import Jobs
+from ..recording.cut import count_of
 from ..recording.log import Interval, is_fault
 from ..recording.row import Row
 from ..recording.turns import Piece, Pieces, joined, turns_of
@@ -98,7 +99,7 @@ class Runs:
 
     def ended(self, made: Recording, is_deep: bool = True) -> Ended:
         """How a recording ended. Only a deep look tells for what a hart waits."""
-        wanted, ends = self.wanted, made.read.ends
+        wanted, ends = self.wanted, made.ends
         self.longest = max(self.longest, sum(end.count for end in ends.values()))
         if made.status == STATUS_FAULT:
             return self.fault(made)
@@ -115,7 +116,7 @@ class Runs:
         hart = next(hart for hart, end in log.ends.items() if is_fault(end.reason))
         found = Ends(self.quick, self.meaning.elf).faulted(log, hart)
         row = Row(hart, 0, found.pc, None, "", "", 0, None, None, found.reason)
-        return Ended(FAULT, found.reason, self.meaning.point(row))
+        return Ended(FAULT, found.reason, self.meaning.point(row), caller=self.meaning.caller(found.pc, found.calls))
 
     def waits(self, made: Recording) -> Tuple[Tuple[int, Tuple[str, ...]], ...]:
         exact = Ends(self.quick, self.meaning.elf).exact(made)
@@ -175,7 +176,7 @@ class Runs:
             turns = made.turns()
             rest = turns[len(prefix):]
             taken = len(rest) - len(rest.lstrip(bytes([hart])))
-            end = made.read.ends.get(hart)
+            end = made.ends.get(hart)
             is_cut = taken < most and end is not None and end.reason == "limit"
             if limit == most_counts or (turns.startswith(prefix) and not is_cut):
                 break
@@ -194,11 +195,11 @@ class Runs:
         if not mine or not most:
             return []
         if mine[0].start > 0:                   # which no recording with so large a log and small a limit has
-            return [Turn(None, ())] * most
+            return [Turn()] * most
         found: List[Turn] = []
         for turn in self.meaning.turns(text_of, mine, first):
             found.append(turn)
-            if len(found) >= most or turn.row and turn.row.ic > MOST_LOOK_ROWS:
+            if len(found) >= most or turn.text and count_of(turn.text) > MOST_LOOK_ROWS:
                 break
         return found
 

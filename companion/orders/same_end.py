@@ -12,7 +12,7 @@ from ..call.errors import NO_INTERVAL, CompanionError
 from ..recording.cause import MOST_FRAMES, cause_along
 from ..recording.chunks import OTHER_LINES
 from ..recording.elf import Elf
-from ..recording.log import End, Log, is_fault, load_log
+from ..recording.log import End, Log, is_fault, load_ends, load_log
 from .record import FAULT, LIMIT, Quick
 from .waiting import STAY_ROWS, Stay, Waiting, stay_like, stay_of
 
@@ -33,17 +33,23 @@ class Recording:
     def read(self) -> Log:
         return load_log(self.log)
 
+    @cached_property
+    def ends(self) -> Mapping[int, End]:
+        return load_ends(self.log)
+
     def turns(self) -> bytes:
         return Path(self.book).read_bytes()
 
 
 @dataclass(frozen=True)
 class Faulted:
-    """The fault, the address of its code, and the functions that are under way, innermost first: all, or the last of them."""
+    """The fault, the address of its code, and the functions that are under way, innermost first: all, or the last of them; and
+    the place of the innermost call, if there is one."""
     reason: str
     pc: int
     functions: tuple[str, ...]
     is_cut: bool
+    calls: tuple[int, ...] = ()
 
     def is_like(self, other: object) -> bool:
         if not isinstance(other, Faulted):
@@ -77,7 +83,7 @@ class Ends:
         """The byte that is asked of; else the fault's name, the harts at their limit, or the exit code."""
         if self.offset is not None:
             return made.status, byte_at(made.said, self.offset)
-        ends = made.read.ends
+        ends = made.ends
         if made.status == FAULT:
             return made.status, tuple(sorted(end.reason for end in ends.values() if is_fault(end.reason)))
         if made.status == LIMIT:
@@ -108,7 +114,7 @@ class Ends:
     def faulted(self, log: Log, hart: int) -> Faulted:
         text, is_cut = self.last_text(log, hart, CALLS_ROWS)
         cause = cause_along([OTHER_LINES.sub(b"", b"\n" + text).rstrip(b"\n")], hart, log.ends[hart])
-        return Faulted(cause.reason, cause.pc, cause.functions(self.elf), is_cut)
+        return Faulted(cause.reason, cause.pc, cause.functions(self.elf), is_cut, cause.calls[:1])
 
     def last_text(self, log: Log, hart: int, most: int) -> tuple[bytes, bool]:
         """What `replay` prints of a hart's last intervals, until they have so many rows, and whether there are rows before."""

@@ -4,13 +4,13 @@ from __future__ import annotations
 import os
 from dataclasses import replace
 from pathlib import Path
-from typing import List, Mapping, Optional
+from typing import List, Mapping, Optional, Sequence
 
 from ..call.errors import REFUSED, CompanionError
 from ..recording.turns import Pieces, turns_of
-from .marks import LIMIT, OUTPUT, Ended, Mark, Order, mark_of
+from .marks import LIMIT, OUTPUT, Ended, Mark, Order, Point, mark_of
 from .record import NUMBERS, Quick
-from .meaning import Meaning
+from .meaning import Meaning, Turn
 from .order_file import DEFAULTS
 from .runs import Asked, Runs
 from .same_end import Recording, byte_at
@@ -73,11 +73,17 @@ class Telling:
         byte = byte_at(made.said, self.offset)
         return Ended(OUTPUT, place=self.offset, value=byte[0] if byte else 0)
 
+    def points(self, turns: Sequence[Turn]) -> List[Optional[Point]]:
+        """With their callers."""
+        self.meaning.places.fetch({at for turn in turns for at in turn.calls()})
+        return [point and point._replace(callers=self.meaning.called(turn))
+                for point, turn in zip(self.meaning.points(turns), turns)]
+
     def marks(self, runs: Runs, made: Recording, found: Search) -> List[Mark]:
         """A mark for each switch, with the points of its window."""
         pieces: Pieces = found.core
         taken = {hart: sum(piece.turns for piece in pieces if piece.hart == hart) for hart, _ in pieces}
-        points = {hart: iter(self.meaning.points(runs.turns_of(made, hart, 0, turns))) for hart, turns in taken.items()}
+        points = {hart: iter(self.points(runs.turns_of(made, hart, 0, turns))) for hart, turns in taken.items()}
         marks = []
         for at, (hart, turns) in enumerate(pieces[:-1]):
             mine = [next(points[hart]) for _ in range(turns)]

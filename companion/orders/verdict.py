@@ -2,7 +2,7 @@
 from __future__ import annotations
 
 from dataclasses import dataclass, field
-from typing import Any, Dict, List, Optional, Sequence
+from typing import Any, Dict, List, Optional, Sequence, Tuple
 
 from ..call.errors import UNSURE, WRONG
 from ..call.text import counted, number
@@ -29,7 +29,7 @@ class Ending:
     """A bad end, how many orders end so, and the first of them."""
     end: Ended
     first: Asked
-    count: int = 1
+    count: int = 0
 
 
 @dataclass
@@ -66,15 +66,15 @@ class Checked:
 def near_of(runs: Runs, pieces: Pieces, harts: int, tries: int) -> Near:
     """Tries so many orders near one."""
     most = min(tries, MOST_INSTRUCTIONS // max(1, runs.longest))
-    found, by_end = Near(left_out=tries - most), {}     # type: Near, Dict[Ended, Ending]
+    found = Near(left_out=tries - most)
+    by_end: Dict[Tuple[Ended, bool], Ending] = {}       # what called a line counts as far as that makes it the recorded end
     for done in runs.each(neighbours(pieces, harts, most)):
         found.tried += 1
         if done.end.kind == WELL:
             found.slow += done.is_slow
-        elif done.end in by_end:
-            by_end[done.end].count += 1
-        else:
-            by_end[done.end] = Ending(done.end, done.asked)
+            continue
+        key = done.end._replace(caller=None), runs.wanted is not None and done.end.is_as(runs.wanted)
+        by_end.setdefault(key, Ending(done.end, done.asked)).count += 1
     found.endings = sorted(by_end.values(), key=lambda ending: -ending.count)
     return found
 
@@ -95,7 +95,7 @@ def check(runs: Runs, order: Order, tries: int) -> Checked:
         near = near_of(runs, pieces, order.harts, tries)
     found = Checked(order, carrier.steps, carried, near, runs.count)
     if carried.kind != WELL:
-        found.shown = Ending(carried, asked)
+        found.shown = Ending(carried, asked, 1)
     elif near.endings:
         found.shown = next((ending for ending in near.endings if is_same(ending.end, order)), near.endings[0])
     judge(found)
@@ -111,7 +111,7 @@ def judge(found: Checked) -> None:
     if found.shown:
         by = "by an order near it" if near.endings else "by the order itself"
         if is_same(found.shown.end, order):
-            found.verdict = f"STILL CRASHES, {by}"
+            found.verdict = f"STILL CRASHES, {by}" + call_apart(found.shown.end, order.end)
         else:
             found.verdict = "ENDS BADLY, " + ("but otherwise, " if order.end else "") + by
         found.status = STATUS.get(found.shown.end.kind, WRONG)
@@ -123,6 +123,12 @@ def judge(found: Checked) -> None:
         is_kept = all(step.how == KEPT for step in found.steps)
         found.verdict = "HOLDS, as far as was tried: the order " + (
             "comes, and ends well" if is_kept else "can't come any more")
+
+
+def call_apart(end: Ended, recorded: Optional[Ended]) -> str:
+    if end.kind != FAULT or recorded is None or end.is_here(recorded):
+        return ""
+    return "; one of the two lines calls the other's function"
 
 
 def expected(found: Checked) -> float:
@@ -137,8 +143,9 @@ def lines(found: Checked) -> List[str]:
     for at, step in enumerate(found.steps, 1):
         point = step.mark.point
         said.append(f"{at:>3}. hart {step.mark.hart} until {point.what()} in {point.place()}: {step.said}")
-    kept = sum(step.how == KEPT for step in found.steps)
-    by = f"{kept} of {counted(len(found.steps), 'switch')} are as they were; by this order: " if found.steps else ""
+    kept, switches = sum(step.how == KEPT for step in found.steps), counted(len(found.steps), "switch")
+    are = "is as it was" if len(found.steps) == 1 else "are as they were"
+    by = f"{kept} of {switches} {are}; by this order: " if found.steps else ""
     return said + [by + found.carried.text()] + near_lines(found) + [found.verdict]
 
 
@@ -146,11 +153,12 @@ def near_lines(found: Checked) -> List[str]:
     near, power = found.near, found.order.power
     if not near.tried:
         return []
-    said = [f"{number(near.tried - near.bad)} of {number(near.tried)} orders near it end well"]
+    end, do = ("ends", "does") if near.tried == 1 else ("end", "do")
+    said = [f"{number(near.tried - near.bad)} of {counted(near.tried, 'order')} near it {end} well"]
     if power:
-        said[0] += f"; of the recorded build {number(power.tried - power.met)} of {number(power.tried)} do"
+        said[0] += f"; of the recorded build {number(power.tried - power.met)} of {number(power.tried)} {do}"
     else:
-        said[0] += "; how many of the recorded build do isn't known"
+        said[0] += f"; how many of the recorded build {do} isn't known"
     if power and not power.met:
         said.append("    none near it crashes in the recorded build, so these say nothing: the order alone does")
     if near.slow:

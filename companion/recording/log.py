@@ -12,7 +12,7 @@ from ..call import program
 from ..call.errors import BAD_LOG, NO_INTERVAL, REFUSED, CompanionError
 from ..call.files import check_regular
 from ..call.options import whole
-from .head import VERSION_1, head_of
+from .head import VERSION_1, Head, head_of
 
 HEADER, FIRST_LOAD, SC_OK, SC_FAILED, EDGE, END = 1, 2, 3, 4, 5, 6
 SIZES = {HEADER: 146, FIRST_LOAD: 10, SC_OK: 2, SC_FAILED: 2, EDGE: 19, END: 15}
@@ -28,6 +28,7 @@ DIGEST, SEAL = 32, 48           # bytes of a digest, and of what ends a block
 LENGTH_BACK = 36                # bytes from a block's end back to the length of its records
 # Most records are FirstLoads and Edges: so many that follow each other are passed at once. The sizes are those of SIZES.
 RUNS = re.compile(rb"(?:\x02.{9}){1,1000}|(?:\x05.{18}){1,1000}|\x01.{145}|\x06.{14}|\x03.|\x04.", re.S)
+TO_ENDS = re.compile(rb"(?:\x02.{9}|\x05.{18}|\x01.{145}|[\x03\x04].){1,1000}|\x06.{14}", re.S)    # an End alone, or others
 FIRST_FAULT = 17                                # the number of the first reason that is a fault
 
 
@@ -120,16 +121,7 @@ class Log:
         self.dropped = head.dropped
         if not 1 <= self.harts <= MOST_HARTS:
             raise IndexError(self.harts)        # of so many lists would be made
-        if self.version == VERSION_1:
-            return data[head.records_at:-DIGEST]
-        pieces, end = [], len(data)
-        while end > head.records_at:            # sealed blocks, from the last one back
-            size, = struct.unpack_from("<I", data, end - LENGTH_BACK)
-            pieces.append(data[end - SEAL - size:end - SEAL])
-            end -= size + SEAL
-        if end < head.records_at:
-            raise IndexError(end)               # no block begins there
-        return b"".join(reversed(pieces))
+        return records_in(data, head)
 
     def read_records(self, records: bytes) -> None:
         opened: dict[int, Interval] = {}
@@ -141,13 +133,12 @@ class Log:
             elif tag == EDGE:
                 self.edge_runs.append(record)
             elif tag == END:
-                count, reason, value = struct.unpack_from("<QBI", record, 2)
-                self.ends[hart] = End(count, REASONS[reason], value)
+                self.ends[hart] = end = end_of(record)
                 interval = opened.pop(hart, None)
                 if interval is None:            # the Header of a hart's first End can be lost
                     self.late.add(hart)
                 else:
-                    interval.end, interval.reason, interval.value = count, REASONS[reason], value
+                    interval.end, interval.reason, interval.value = end.count, end.reason, end.value
                     if interval.reason == CALL:
                         self.called.append(interval)
 
@@ -191,6 +182,25 @@ class Log:
                                  registers[0] - 4)
 
 
+def records_in(data: bytes, head: Head) -> bytes:
+    """The records of a file. IndexError if it isn't what `check` takes."""
+    if head.version == VERSION_1:
+        return data[head.records_at:-DIGEST]
+    pieces, end = [], len(data)
+    while end > head.records_at:                # sealed blocks, from the last one back
+        size, = struct.unpack_from("<I", data, end - LENGTH_BACK)
+        pieces.append(data[end - SEAL - size:end - SEAL])
+        end -= size + SEAL
+    if end < head.records_at:
+        raise IndexError(end)                   # no block begins there
+    return b"".join(reversed(pieces))
+
+
+def end_of(record: bytes) -> End:
+    count, reason, value = struct.unpack_from("<QBI", record, 2)
+    return End(count, REASONS[reason], value)
+
+
 def runs_of(records: bytes) -> Iterator[bytes]:
     """Each record; FirstLoads that follow each other are one piece, and so are Edges."""
     return (found[0] for found in RUNS.finditer(records))
@@ -226,6 +236,14 @@ def check(name: str) -> None:
                 if file.read(4) == b"\x7fELF":
                     raise CompanionError(f"log: {name} is an ELF file, and the log is named before it: LOG ELF", BAD_LOG)
         raise
+
+
+def load_ends(name: str) -> dict[int, End]:
+    """The last End of each hart of a log that the program has made: so `ends` of the log, for a tenth of the time."""
+    with open(name, "rb") as file:
+        data = file.read()
+    found = (piece[0] for piece in TO_ENDS.finditer(records_in(data, head_of(data))))
+    return {piece[1]: end_of(piece) for piece in found if piece[0] == END}
 
 
 def load_log(name: str) -> Log:

@@ -222,7 +222,9 @@ class Places:
         return frames[0].function if frames else f"{pc:08x}"
 
     def source(self, pc: int) -> str:
-        """The text of the line, if the source is there."""
-        frame = self.innermost(pc)
+        """The text of the innermost line, if the source is there."""
+        return self.text_of(self.innermost(pc))
+
+    def text_of(self, frame: Frame) -> str:
         lines = self.sources.lines(frame.path) if frame.line else []
         return clean(lines[frame.line - 1].strip()) if frame.line <= len(lines) and lines else ""

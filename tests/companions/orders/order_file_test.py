@@ -1,11 +1,14 @@
 """Order files: what is written is read again as the same, what a person writes is read, and each bad line is refused with its
 number."""
 import random
+import subprocess
 
 import case
 import common
+from companion.call.errors import REFUSED
 from companion.orders import order_file
 from companion.orders.marks import EXIT, FAULT, LIMIT, OUTPUT, Ended, Mark, Order, Point, Power
+from companion.orders.record import RANGES
 from companion.recording.head import read_head
 
 BY_HAND = """zelkuma order 1
@@ -43,11 +46,18 @@ def drawn_mark(draw, harts):
 def drawn_order(draw):
     harts = draw.randint(2, 16)
     end = draw.choice((None, Ended(FAULT, "LoadOutside", drawn_point(draw, FAULT)), Ended(FAULT, "Illegal"), Ended(EXIT, value=3),
+                       Ended(FAULT, "Illegal", drawn_point(draw, FAULT), caller=drawn_point(draw, FAULT)),
                        Ended(LIMIT, waits=((0, ("a+4", "b c")), (1, ()))), Ended(OUTPUT, place=7, value=0)))
     data = bytes(draw.choice(b'a\n"\\\x00\xff\t ') for _ in range(draw.choice((0, 1, 300, order_file.LONGEST_TEXT))))
     return Order(draw.choice(NAMES[:-4]), {"--harts": str(harts), "--limit": "70000"}, draw.choice((None, data)), end,
                  draw.choice((None, Power(3, 300), Power(0, 0))), tuple(drawn_mark(draw, harts) for _ in range(draw.randint(1, 6))),
                  draw.choice((None, harts - 1)))
+
+
+def recorded(elf, *options):
+    """Whether `record` takes these options, whether or not the program fits into its memory."""
+    words = [common.PROGRAM, "record", *options, elf, common.path("taken.log"), common.path("taken.book")]
+    return subprocess.run(words, stdout=subprocess.DEVNULL, stderr=subprocess.DEVNULL, check=False).returncode != REFUSED
 
 
 class OrderFileTest(case.Case):
@@ -88,7 +98,8 @@ class OrderFileTest(case.Case):
                            ("no line of an order", "end"), ("no line of an order", "end fault 7"), ("no line of an order", "end exit 0"),
                            ("there is no hart 2", "hart 2 until load a in b"), ("there is no hart 9", "hart 9 to the end"),
                            ("below a line 'hart N", "  not before load a in b"), ("below a line 'hart N", "  under b"),
-                           ("below 'end limit'", "  hart 0 waits for b"), ("says the program twice", "program b.elf"),
+                           ("below 'end limit'", "  hart 0 waits for b"), ("below 'end fault'", "  from b"),
+                           ("says the program twice", "program b.elf"),
                            ("says the settings twice", "set --limit=3"), ("an escape is none of", r'input "\q"'),
                            ("an escape is none of", r'input "\x4"'), ("no more orders", "power 3 of 2"),
                            ("nowhere.in: No such file", "input-file nowhere.in"),
@@ -99,11 +110,41 @@ class OrderFileTest(case.Case):
         for said, line in (("no setting of record", "set --harts=two"), ("no setting of record", "set --seed=1"),
                            ("no setting of record", "set --harts=\u0664"),
                            ("no setting of record", "set harts=2"), ("--harts is 1 to 16", "set --harts=17"),
+                           ("--limit is 1 to 1099511627776", "set --limit=9999999999999999999"),
+                           ("--limit is 1 to 1099511627776", "set --limit=" + "9" * 5000),
                            ("says --limit twice", "set --limit=1 --limit=2")):
             with self.subTest(line):
                 name = common.written(common.path("set.order"), f"{order_file.HEAD}\nprogram a\n{line}\n")
-                self.assertIn(f"line 3: '{line}': ", self.refuses_here(2, order_file_reader, name))
+                self.assertIn(f"line 3: '{line[:80]}': ", self.refuses_here(2, order_file_reader, name))
                 self.assertIn(said, self.refuses_here(2, order_file_reader, name))
+
+    def test_the_range_of_a_setting_is_that_of_the_program(self):
+        """What is out of range is refused by both; what is the least or the most is taken by both."""
+        elf = self.elf("counter")
+        for option, (low, high) in RANGES.items():
+            other = {"--sets2": ["--ways2=1"], "--ways2": ["--sets2=1"]}.get(option, [])
+            format_2 = ["--format=2"] if option != "--format" else []
+            for value, is_good in ((low - 1, False), (low, True), (high, True), (high + 1, False)):
+                setting = f"{option}={value}"
+                with self.subTest(setting):
+                    taken = recorded(elf, "--seed=0", *format_2, *other, setting)
+                    self.assertEqual(taken, is_good)
+                    name = common.written(common.path("range.order"), f"{order_file.HEAD}\nprogram a\nset {setting}\n" +
+                                          "hart 0 until load a in b\n")
+                    if is_good:
+                        self.assertEqual(order_file.read_order(name).settings, {option: str(value)})
+                    else:
+                        self.assertIn(f"{option} is {low} to {high}, not {value}", self.refuses_here(2, order_file_reader, name))
+
+    def test_a_name_that_is_none_on_a_terminal(self):
+        """It would be printed as it stands; the text of a line is cleaned, as the sources' is."""
+        for line in (r'hart 0 until load "a\x00" in b', "hart 0 until load a\0 in b", r'hart 0 until load a in "\x1b[2J"',
+                     r'input-file "\x07"', r'  under "\x1b"'):
+            with self.subTest(line):
+                before = ["hart 0 until load a in b"] if line[0] == " " else []
+                self.refused_line("a name has a control character", *before, line, number=4 + len(before))
+        name = common.written(common.path("text.order"), BY_HAND.replace("filter->taps = 0;", "filter\x1b->\ttaps"))
+        self.assertEqual(order_file.read_order(name).marks[2].point.text, "filter?-> taps")
 
     def test_lines_in_a_wrong_order(self):
         self.refused_line("behind 'to the end'", "hart 1 to the end", "hart 0 until load a in b", number=5)
@@ -117,7 +158,9 @@ class OrderFileTest(case.Case):
 
     def test_files_that_are_no_orders(self):
         for data, said in ((b"", "first line has to be"), (b"zelkuma order 2\n", "another version than 1"), (b"\xff\n", "first line"),
-                           ((order_file.HEAD + "\n" + "#" * order_file.LARGEST).encode(), "first line"),
+                           ((order_file.HEAD + "\n" + "#" * order_file.LARGEST).encode(), "over 1048576 bytes"),
+                           ((order_file.HEAD + "\n# ").encode() + b"\xe4\n", "isn't UTF-8"),
+                           (("\ufeff" + BY_HAND).encode(), "byte order mark"), (BY_HAND.encode("utf-16"), "byte order mark"),
                            ((order_file.HEAD + "\n").encode(), "no line 'program"),
                            ((order_file.HEAD + "\nprogram a\nset --harts=2\n").encode(), "no line 'hart N until")):
             with self.subTest(data[:40]):

@@ -72,13 +72,12 @@ def last_rows(log, elf, book):
 
 
 class RecheckTest(case.Case):
-    def order_of(self, name, *options):
+    def order_of(self, name, *options, level="-O2"):
         """The order file of a recorded program, as `shrink` saves it."""
-        file = common.path(f"{name}.order")
+        file, short = common.path(f"{name}{level}.order"), common.path(f"{name}{level}.short")
         if not os.path.exists(file):
-            log, elf, book = mended.recorded(name)
-            self.says("shrink", log, elf, book, common.path(name + ".short"),
-                      common.path(name + ".short.book"), "--order", file, *options)
+            self.says("shrink", *mended.recorded(name, level), short, short + ".book",
+                      "--order", file, *options)
         return file
 
     def verdict(self, status, verdict, *words):
@@ -148,6 +147,25 @@ class RecheckTest(case.Case):
                 self.assertEqual([each["how"] for each in told["switches"]], ["kept"] * 3)
                 self.assertEqual("renamed, it seems" in json.dumps(told),
                                  change.startswith("renamed"))
+
+    @needs_compiler
+    def test_a_load_that_is_done_before_the_call(self):
+        """At -O2 GCC loads in `look` what `length` gets, so the same fault is in one of two lines, of
+        which one calls the other's function."""
+        self.needs_addr2line()
+        same = "STILL CRASHES, by the order itself"
+        apart = same + "; one of the two lines calls the other's function"
+        for level, other in (("-O0", "-O2"), ("-O2", "-O0")):
+            order = self.order_of("shelf", level=level)
+            text = common.text_of(order)
+            self.assertEqual("\n  from look shelf.c:16 | " in text, level == "-O0")
+            new = mended.built("shelf", level=other)
+            told = self.verdict(10, same, order, mended.built("shelf", level=level), *FEW)
+            self.assertEqual(told["verdict"], same)
+            self.verdict(10, apart, order, new, *FEW)
+            alone = hand(re.sub("  from .*\n", "", text), "alone.order")
+            otherwise = "ENDS BADLY, but otherwise, by the order itself"
+            self.verdict(10, otherwise if level == "-O0" else apart, alone, new, *FEW)
 
     @needs_compiler
     def test_a_log_is_asked_directly_and_a_stripped_build_is_named(self):
@@ -235,6 +253,14 @@ class RecheckTest(case.Case):
         told = self.verdict(24, "UNSURE", order, self.elf("filters"), "--tries", "2")
         self.assertEqual(told["switches"][1]["how"], "gone")
         self.assertIn("hart 3 doesn't come to gone", told["switches"][1]["said"])
+        order = hand("zelkuma order 1\nprogram counter.elf\nset --harts=2\n"
+                     "hart 0 until load missing in main\n", "waits.order")
+        elf = self.elf("counter")
+        status, said, _ = common.companion("recheck", order, elf, "--tries", "1")
+        self.assertEqual(status, 24)
+        self.assertRegex(said, r"in main: it has no object missing; hart 0 waits in .* alone changes\n"
+                         r"0 of 1 switch is as it was; by this order: it ends well\n"
+                         r"1 of 1 order near it ends well; how many of ")
         order = hand(HAND.replace("ready in main", "ready in main #9"), "ninth.order")
         told = self.verdict(10, "STILL CRASHES", order, self.elf("filters"), "--tries", "2")
         self.assertIn("hart 0 does it 1 time, not 9", told["switches"][0]["said"])
