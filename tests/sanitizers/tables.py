@@ -1,4 +1,4 @@
-"""Writes the tables of bench/RESULTS.md that tries.py and ablation.py have results for: tables.py
+"""Writes the tables of bench/RESULTS.md that tries.py and left_out.py have results for: tables.py
 FOLDER.
 
 Each follows a line `<!-- tests/sanitizers/tables.py NAME -->`, up to the next empty line."""

@@ -1,7 +1,7 @@
 """Leaves out one check or rule of `memory` at a time: which errors aren't named then, and which
 good programs aren't silent?
 
-    ablation.py FOLDER [PART..]     all parts, or those whose names begin with one of these words
+    left_out.py FOLDER [PART..]     all parts, or those whose names begin with one of these words
 
 It tries the logs that tries.py recorded in FOLDER, but for those of more than MOST_ROWS rows, and
 the twins of tests/companions/lib/programs/memory_errors.c, each an error and its nearest good one.
