@@ -2,26 +2,28 @@
 rows.
 
 How many rows an interval has is in its Header and its End, so what is read is decided before a row
-is asked for. A head and the last blocks behind it are a file whose end `salvage` saves
-(docs/FORMAT.md): so the program tests each block's digest and seals the log. Its own `joint`,
-`races` and `list` read that, in a time that doesn't grow with the whole."""
+is asked for. The last records of a run are a log, too (docs/FORMAT.md). The program's own `joint`,
+`races` and `list` read it, in a time that doesn't grow with the whole. `salvage` would save such an
+end, but from a block's border on: there a block may have 25 intervals, each of any length."""
 from __future__ import annotations
 
 import contextlib
+import hashlib
 import mmap
 import os
 import struct
-from typing import Optional
+from typing import Iterator, Optional
 
 from ..call import program, streams
 from ..call.errors import UNREADABLE, CompanionError
 from ..call.scratch import Scratch
-from .head import LONGEST, VERSION_1, Head, head_of, read_head
-from .log import (END, FIRST_FAULT, HEADER, LENGTH_BACK, REASONS, SEAL, At, End, Log, changed,
-                  check, load_log, no_row, runs_of)
+from .head import DROPPED, DROPPED_AT, LONGEST, VERSION_1, VERSION_2, Head, head_of, read_head
+from .log import (END, FIRST_FAULT, HEADER, REASONS, SEAL, SIZES, At, End, Log, changed, check,
+                  load_log, no_row, runs_of)
 
 # bytes: a file of version 1 that is larger isn't read whole
 LARGEST_SMALL = 1 << 20
+BLOCK = 4096                    # bytes of a block's records
 # Are read at first, and if values come from before them
 FIRST_ROWS = 1000000
 MORE_ROWS = 2600000
@@ -82,19 +84,16 @@ class LogFile:
                     program.output("convert", self.name, self.path("converted"))
                 self.source = self.path("converted")
                 return self.end_of_file(rows, asked)
-            last = LastBlocks(data, head, rows, asked)
+            last = LastRecords(data, head, rows, asked)
             if last.asked:
                 raise no_row(self.name, last.asked)
             if not last.unread:
                 return self.whole()
-            with open(self.path("cut"), "wb") as cut:
-                cut.write(data[:head.records_at] + data[head.records_at + last.unread:])
-        saved = program.output("salvage", self.path("cut"), self.path("log"))
-        if int(saved.split()[-1]) != last.size:     # a bad block is left out with those before it
-            raise changed(self.name)
-        log = load_log(self.path("log"))
-        log.shown = self.name
-        log.unread = last.unread
+            settings = data[:DROPPED_AT[VERSION_2]]
+            sealed = b"".join(sealed_blocks(settings, last.dropped, last.records()))
+        with open(self.path("log"), "wb") as kept:
+            kept.write(sealed)
+        log = Log(self.path("log"), sealed, self.name, last.unread)
         log.ends = dict(sorted(last.last.items()))      # some may be further back
         return log
 
@@ -106,7 +105,7 @@ def exit_code(name: str) -> Optional[int]:
         with open(name, "rb") as file, mmap.mmap(file.fileno(), 0, access=mmap.ACCESS_READ) as data:
             head = head_of(data[:LONGEST])
             is_sealed = head.version != VERSION_1
-            ends = LastBlocks(data, head, 1, None).last if is_sealed else Log(name, data[:]).ends
+            ends = LastRecords(data, head, 1, None).last if is_sealed else Log(name, data[:]).ends
     except (CompanionError, OSError, ValueError, IndexError, KeyError, struct.error):
         return None
     codes = ([end.value for end in ends.values() if end.reason == "group"]
@@ -121,46 +120,55 @@ def open_log(name: str) -> LogFile:
     return LogFile(name)
 
 
-class LastBlocks:
-    """The last blocks of a file, from the end back, until they hold so many rows, the last interval
-    of each hart that ended there, and the row that is asked of. Intervals can be long: once there
-    are twice as many rows, those of the harts that faulted are enough.
+class LastRecords:
+    """The last records of a file, from the end back, until they hold so many rows, the last
+    interval of each hart that ended there, and the row that is asked of. Intervals can be long:
+    once there are twice as many rows, those of the harts that faulted are enough.
 
-    unread   how many bytes of blocks come before them
-    size     bytes of their records
+    unread   how many bytes come before them; dropped: how many records
     last     {hart: its last End}, wherever that is"""
 
     def __init__(self, data: mmap.mmap, head: Head, rows: int, asked: Optional[At]) -> None:
         self.most = rows
         self.asked = asked
-        self.rows = self.unread = self.size = 0
+        self.rows = self.unread = self.dropped = 0
         # {hart: where its interval ends, whose Header comes further back}
         self.ends: dict[int, int] = {}
         self.awaited: set[int] = set()          # harts whose last interval is still incomplete
         self.faulted: set[int] = set()
         self.seen: set[int] = set()
         self.last: dict[int, End] = {}
+        self.pieces: list[bytes] = []
         begin = head.records_at
         end = len(data)
         while end > begin and not (self.unread and len(self.last) == head.harts):
-            size, = struct.unpack_from("<I", data, end - LENGTH_BACK)
+            before, _, size = struct.unpack_from("<QII", data, end - SEAL)
             end -= SEAL + size
-            self.take_block(data[end:end + size])
-            if self.is_enough() and not self.unread:
-                self.unread = end - begin
+            self.take_block(data[end:end + size], end - begin, before)
         if end < begin:
             raise IndexError(end)               # no block begins there
 
-    def take_block(self, block: bytes) -> None:
+    def records(self) -> bytes:
+        return b"".join(reversed(self.pieces))
+
+    def take_block(self, block: bytes, unread: int, before: int) -> None:
         """Takes the records of a block, the last one first, while they are needed."""
-        for run in reversed(list(runs_of(block))):
+        runs = list(runs_of(block))
+        at = len(block)
+        while runs:
+            run = runs.pop()
+            at -= len(run)
             if run[0] == END:
                 count, reason, value = struct.unpack_from("<QBI", run, 2)
                 self.last.setdefault(run[1], End(count, REASONS[reason], value))
             if not self.unread:
                 self.take(run)
+                if run[0] == HEADER and self.is_enough():
+                    self.unread = unread + at
+                    self.dropped = before + sum(len(one) // SIZES[one[0]] for one in runs)
+                    self.pieces.append(block[at:])
         if not self.unread:
-            self.size += len(block)
+            self.pieces.append(block)
 
     def is_enough(self) -> bool:
         if self.asked or not self.last or self.rows < self.most or self.awaited & self.faulted:
@@ -186,3 +194,35 @@ class LastBlocks:
                 self.rows = self.asked.count - begin
                 self.asked = None
                 self.awaited = set()
+
+
+def sealed_blocks(settings: bytes, dropped: int, records: bytes) -> Iterator[bytes]:
+    """The file of version 2 of some records, in pieces."""
+    head = settings + DROPPED.pack(dropped, len(records))
+    key = hashlib.sha256(head).digest()
+    left = len(records)
+    yield head + key
+    for block, count in blocks_of(records):
+        left -= len(block)
+        body = block + struct.pack("<QII", dropped, left, len(block))
+        yield body + hashlib.sha256(key + body).digest()
+        dropped += count
+
+
+def blocks_of(records: bytes) -> Iterator[tuple[bytes, int]]:
+    """The records of each block, and how many they are."""
+    block = b""
+    count = 0
+    for run in runs_of(records):
+        size = SIZES[run[0]]
+        while run:
+            fits = (BLOCK - len(block)) // size * size
+            block += run[:fits]
+            count += len(run[:fits]) // size
+            run = run[fits:]
+            if run:
+                yield block, count
+                block = b""
+                count = 0
+    if block:
+        yield block, count

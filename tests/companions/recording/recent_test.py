@@ -1,14 +1,12 @@
 """The end of a log as a log of its own: it says what the whole says of the same rows. And names of
 another build."""
 import os
-import shutil
 import sys
 from contextlib import closing
 
 import case
 import common
 
-from companion.call.errors import CompanionError
 from companion.recording import recent
 from companion.why.analysis import analysed
 from companion.recording.log import At
@@ -110,19 +108,6 @@ class RecentTest(case.Case):
             self.assertGreater(source.end(500).unread, 0)
         self.assertFalse(os.path.exists(source.folder))
 
-    def test_a_block_that_changed_is_refused(self):
-        """The program tests the digests of the blocks that are cut off."""
-        log = common.path("changed.log")
-        shutil.copy(self.record("wild_store", *SMALL), log)
-        with closing(LogFile(log)) as source:
-            with open(log, "r+b") as file:
-                file.seek(-3000, os.SEEK_END)   # in the last block but one; the last has 269 bytes
-                old = file.read(1)
-                file.seek(-1, os.SEEK_CUR)
-                file.write(bytes([old[0] ^ 1]))
-            with self.assertRaisesRegex(CompanionError, "changed while it was read"):
-                source.end(500)
-
     def test_why_reads_more_only_if_values_come_from_before(self):
         log = self.record("wild_store", *SMALL)
         elf = self.elf("wild_store")
@@ -142,7 +127,7 @@ class RecentTest(case.Case):
         elf = self.elf("wild_store")
         text = self.says("why", log, elf, "--rows", "500")
         self.assertRegex(text, r"\nOnly the last [\d,]+ rows of the log were read: [\d,]+ bytes of "
-                               r"records(?: and [\d,]+ rows)? before them weren't\.")
+                               r"records before them weren't\.")
         self.assertIn("calls from before the first row that was read", text)
         self.assertNotIn("The log gave up", text)
         self.assertNotIn("Only the last", self.says("why", log, elf))
