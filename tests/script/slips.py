@@ -138,7 +138,7 @@ def ran(words, at_terminal, kept):
     """The status and err of a call, which is kept in a file."""
     call = ["bash", f"{TOP}/zelkuma", *words]
     if at_terminal:
-        call = [sys.executable, f"{TOP}/tests/script/terminal.py", "--err", kept, *call]
+        call = [sys.executable, "-I", "-S", f"{TOP}/tests/script/terminal.py", "--err", kept, *call]
     with open(os.devnull if at_terminal else kept, "wb") as err:
         status = subprocess.run(call, stdin=subprocess.DEVNULL, stdout=subprocess.DEVNULL,
                                 stderr=err, check=False).returncode

@@ -101,7 +101,7 @@ hasnt() { ! grep -q -- "$2" "$work/$1" || fails "'$2' in $1"; }
 err_is_terminal() {
     local python
     python=$(python3 -c 'import sys; print(sys.executable)' 2>/dev/null) || end_skipped "python3 isn't here, and err can be no terminal"
-    terminal=("$python" "$top/tests/script/terminal.py" --err "$work/err")
+    terminal=("$python" -I -S "$top/tests/script/terminal.py" --err "$work/err")
 }
 
 # Calls the script with these commands of the system alone; sets `zelkuma`.

@@ -10,8 +10,9 @@ put into FILE.
 """
 import os
 import pty
-import subprocess
 import sys
+
+SIGPIPE, SIGXFSZ = 13, 25       # which python ignores; `signal` and `subprocess` take as long to load as the rest
 
 
 def shown_at(terminal):
@@ -28,13 +29,19 @@ def shown_at(terminal):
 
 def run_with_err(file, words):
     terminal, theirs = pty.openpty()
-    process = subprocess.Popen(words, stderr=theirs, env=dict(os.environ, TERM="dumb"))
+    process = os.posix_spawnp(words[0], words, dict(os.environ, TERM="dumb"), setsigdef=[SIGPIPE, SIGXFSZ],
+                              file_actions=[(os.POSIX_SPAWN_DUP2, theirs, 2)])
     os.close(theirs)
     shown = b"".join(shown_at(terminal))
     with open(file, "wb") as kept:
         kept.write(shown.replace(b"\r\n", b"\n"))
-    status = process.wait()
-    return status if status >= 0 else 128 - status
+    return status_of(process)
+
+
+def status_of(process):
+    """As a shell tells it."""
+    status = os.waitpid(process, 0)[1]
+    return 128 + os.WTERMSIG(status) if os.WIFSIGNALED(status) else os.WEXITSTATUS(status)
 
 
 def main(words):
@@ -62,9 +69,9 @@ def main(words):
             else:
                 open(file, "w").close()
             awaited = None
-    status = os.waitpid(process, 0)[1]
+    status = status_of(process)
     print(shown.decode(errors="replace").replace("\x1b", "\\e").replace("\r", "\\r"), end="")
-    return 128 + os.WTERMSIG(status) if os.WIFSIGNALED(status) else os.WEXITSTATUS(status)
+    return status
 
 
 if __name__ == "__main__":
