@@ -1,7 +1,6 @@
 """Calls of companions in processes that are forked: python's start, which takes longer than most of
 what they do, is saved."""
 import fcntl
-import importlib
 import os
 import resource
 import signal
@@ -14,8 +13,8 @@ from tried import TOP, read
 sys.path.insert(0, TOP)
 from companion.call import words as call                      # noqa: E402
 
-for word, (part, _) in call.WORDS.items():      # once, and not in each process
-    importlib.import_module(f"companion.{part}.{word}")
+for word in call.WORDS:     # once, and not in each process
+    call.module_of(word)
 TRACEBACK = 99              # the status of a call that ended by one
 HANGS_S = 600               # by the clock: the processors may be another's
 F_SETPIPE_SZ = 1031

@@ -80,7 +80,7 @@ def recordings(folder, share):
 
 
 def many_rows(share):
-    return "--limit", str(20000000 // share), "--interval", "10000000"
+    return "--limit", str(20000000 // share), "--interval", str(10000000 // share)
 
 
 def calls(folder, new, share):
@@ -317,15 +317,15 @@ class Sweep:
 def main(words):
     draw = random.Random(int(words[1]) if len(words) > 1 else 1)
     is_all = words[:1] == ["all"]
+    count = int(words[0]) if words and not is_all else 1
     with tempfile.TemporaryDirectory() as folder:
         sweep = Sweep(folder, 1 if is_all else FEWER)
-        every = [(number, moment) for number in STATUSES for moment in (*MOMENTS, SAVING)]
         for name, word in sweep.calls.items():
-            some = every if is_all else draw.sample(every,
-                                                    min(len(every), int(words[0]) if words else 1))
+            moments = (*MOMENTS, SAVING) if word.targets else MOMENTS
+            every = [(number, moment) for number in STATUSES for moment in moments]
+            some = every if is_all else draw.sample(every, min(len(every), count))
             for number, moment in some:
-                if moment != SAVING or word.targets:
-                    sweep.tries(name, number, moment)
+                sweep.tries(name, number, moment)
             status, took = sweep.took.get(name, (None, 0))
             print(f"{name}: undisturbed " + (f"{took:.1f} s, status {status}" if status is not None
                                              else "it waits"), flush=True)
