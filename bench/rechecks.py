@@ -24,7 +24,9 @@ import mended
 BUILDS = (("same", "", "-O2"), ("moved", mended.MOVED, "-O2"), ("-O0", "", "-O0"),
           ("-O1", "", "-O1"), ("-Os", "", "-Os"), ("-O3", "", "-O3"), ("half", "half", "-O2"),
           ("mended", "mended", "-O2"), ("mended -O1", "mended", "-O1"))
-HOLDS, BAD_ENDS, UNSURE = 0, (10, 11, 25), 24
+HOLDS = 0
+BAD_ENDS = (10, 11, 25)
+UNSURE = 24
 WRONG = "WRONG"
 
 
@@ -42,7 +44,8 @@ def processor_seconds():
 
 def order_of(name):
     """The order file of a program's recording."""
-    order, short = common.path(f"{name}.order"), common.path(f"{name}.short")
+    order = common.path(f"{name}.order")
+    short = common.path(f"{name}.short")
     said_by("shrink", *mended.recorded(name), short, short + ".book", "--order", order)
     return order
 

@@ -1,5 +1,5 @@
-"""Carries an order over to another build: its list of turns is made mark by mark, each by a recording
-and a look at what its hart does there."""
+"""Carries an order over to another build: its list of turns is made mark by mark, each by a
+recording and a look at what its hart does there."""
 from __future__ import annotations
 
 from typing import AbstractSet, List, NamedTuple, Optional, Sequence
@@ -11,12 +11,19 @@ from .marks import CALL, FAULT, Mark, Order, Point
 from .meaning import Turn, access_of
 from .runs import Runs
 
-LEAST_TURNS, MOST_TURNS = 2000, 128000      # of a hart, in which its mark is looked for
+# Of a hart, in which its mark is looked for
+LEAST_TURNS = 2000
+MOST_TURNS = 128000
 TIMES = 8                                   # so many times more, until it is there
-SPIN_TURNS, SPIN_CODE = 120, 24             # of a hart that waits so many turns have so few addresses of code
+# Of a hart that waits so many turns have so few addresses of code
+SPIN_TURNS = 120
+SPIN_CODE = 24
 MOST_WAITS = 4                              # so often others let a hart continue up to one mark
-BEHIND = 64                                 # turns that the last hart gets, once it goes round and round
-KEPT, FORBIDDEN, GONE = "kept", "forbidden", "gone"
+# Turns that the last hart gets, once it goes round and round
+BEHIND = 64
+KEPT = "kept"
+FORBIDDEN = "forbidden"
+GONE = "gone"
 
 
 class Step(NamedTuple):
@@ -28,7 +35,8 @@ class Step(NamedTuple):
 
 
 class Spin(NamedTuple):
-    """A hart that goes round and round: the turn with which that began, the word that it looks at, and a row of that."""
+    """A hart that goes round and round: the turn with which that began, the word that it looks at,
+    and a row of that."""
     begin: int
     word: int
     row: Row
@@ -39,7 +47,8 @@ class Carrier:
     steps   what became of each mark"""
 
     def __init__(self, runs: Runs, order: Order) -> None:
-        self.runs, self.order = runs, order
+        self.runs = runs
+        self.order = order
         self.pieces: List[Piece] = []
         self.steps: List[Step] = []
 
@@ -61,10 +70,12 @@ class Carrier:
             most *= TIMES
 
     def place(self, mark: Mark) -> Step:
-        """By its line, if need be after others have let the hart continue; else by a line like it."""
+        """By its line, if need be after others have let the hart continue; else by a line like
+        it."""
         kept = list(self.pieces)
         turns, found = self.look(mark)
-        first, waited = turns, ""
+        first = turns
+        waited = ""
         for _ in range(MOST_WAITS):
             spin = spinning(turns)
             if found or not spin:
@@ -72,8 +83,9 @@ class Carrier:
             let = self.let_go(mark, spin)
             if not let:
                 return self.placed_alike(mark, first, kept) or self.stuck(mark, spin, kept)
-            waited = (f"; but only after hart {self.pieces[-1].hart} has done {let.place()}: until then "
-                      f"hart {mark.hart} waits in {self.where(spin.row)} for {self.runs.meaning.name(spin.word)}")
+            waited = (f"; but only after hart {self.pieces[-1].hart} has done {let.place()}: "
+                      f"until then hart {mark.hart} waits in {self.where(spin.row)} for "
+                      f"{self.runs.meaning.name(spin.word)}")
             turns, found = self.look(mark)
             found = found or find_like(self.points(turns), mark)
         if found:
@@ -91,10 +103,11 @@ class Carrier:
         return Step(mark, KEPT, found.how)
 
     def stuck(self, mark: Mark, spin: Spin, kept: List[Piece]) -> Step:
-        """A hart that nothing lets continue stops as it begins to wait. What it would have done then isn't known."""
+        """A hart that nothing lets continue stops as it begins to wait. What it would have done
+        then isn't known."""
         self.pieces = [*kept, Piece(mark.hart, spin.begin + 1)]
-        waits = (f"hart {mark.hart} waits in {self.where(spin.row)} for {self.runs.meaning.name(spin.word)}, "
-                 "which no other hart alone changes")
+        waits = (f"hart {mark.hart} waits in {self.where(spin.row)} for "
+                 f"{self.runs.meaning.name(spin.word)}, which no other hart alone changes")
         if not self.runs.meaning.has_object(mark.point.symbol):
             return Step(mark, GONE, f"it has no object {mark.point.symbol}; {waits}")
         return Step(mark, FORBIDDEN, f"it can't come: {waits}")
@@ -109,21 +122,24 @@ class Carrier:
         return self.runs.meaning.point(row).place()
 
     def look(self, mark: Mark) -> tuple[List[Turn], Optional[Found]]:
-        """The turns that a mark's hart takes here, and which is the mark's. Another build may take more
-        of them up to it."""
-        most, begin = LEAST_TURNS, -1
+        """The turns that a mark's hart takes here, and which is the mark's. Another build may take
+        more of them up to it."""
+        most = LEAST_TURNS
+        begin = -1
         while True:
             turns = self.runs.turns(self.pieces, mark.hart, most)
-            found, spin = self.find(turns, mark), spinning(turns)
+            found = self.find(turns, mark)
+            spin = spinning(turns)
             # A hart that waits still does in a longer look; a loop that computes is over then.
             is_sure = spin is not None and spin.begin == begin
             if found or is_sure or len(turns) < most or most >= MOST_TURNS:
                 return turns, found
-            begin, most = spin.begin if spin else -1, most * TIMES
+            begin = spin.begin if spin else -1
+            most = most * TIMES
 
     def let_go(self, mark: Mark, spin: Spin) -> Optional[Point]:
-        """Another hart continues until it changes the word for which this one waits: what it has done
-        then. Those that stopped last are tried first."""
+        """Another hart continues until it changes the word for which this one waits: what it has
+        done then. Those that stopped last are tried first."""
         kept = list(self.pieces)
         waiting = [*kept, Piece(mark.hart, spin.begin + 1)]
         harts = [piece.hart for piece in reversed(kept)] + list(range(self.order.harts))
@@ -143,14 +159,16 @@ def is_change(row: Row) -> bool:
 
 
 def spinning(turns: Sequence[Turn]) -> Optional[Spin]:
-    """Whether a hart goes round and round at the end of its turns: since when, and what it looks at."""
+    """Whether a hart goes round and round at the end of its turns: since when, and what it looks
+    at."""
     tail = [row for row in (turn.row for turn in turns[-SPIN_TURNS:]) if row]
     if not tail or access_of(tail[-1]) in (CALL, FAULT):    # it has ended
         return None
     code = {turn.pc for turn in turns[-SPIN_TURNS:] if turn.text}
     looks = [row for row in tail if row.load and "(sp)" not in row.text]
     values = {(row.load.address, row.load.value) for row in looks if row.load}
-    if len(tail) < SPIN_TURNS - 1 or len(code) > SPIN_CODE or not looks or len(values) > 2 * SPIN_CODE:
+    if (len(tail) < SPIN_TURNS - 1 or len(code) > SPIN_CODE or not looks
+            or len(values) > 2 * SPIN_CODE):
         return None
     begin = next((at for at in range(len(turns), 0, -1) if not is_in(turns[at - 1], code)), 0)
     words = [row.load.address & ~3 for row in looks if row.load]

@@ -38,7 +38,8 @@ def wanted_of(mark: Mark) -> List[Tuple[Point, int]]:
 
 
 def other_accesses(wanted: Point) -> Tuple[str, ...]:
-    """What an access of an object can have become: a store an atomic one, or the other way round."""
+    """What an access of an object can have become: a store an atomic one, or the other way
+    round."""
     return (STORE,) if wanted.access == ATOMIC else (ATOMIC,)
 
 
@@ -47,7 +48,8 @@ def find(points: Points, mark: Mark, called: Callable[[int], Tuple[str, ...]]) -
     for wanted, nth in wanted_of(mark):
         at = None
         if wanted.callers and wanted is mark.point:
-            there = (one for one in all_of(points, lambda one: is_there(one, wanted)) if called(one) == wanted.callers)
+            there = (one for one in all_of(points, lambda one: is_there(one, wanted))
+                     if called(one) == wanted.callers)
             at = next(islice(there, mark.under - 1, None), None)
         if at is None:
             at = nth_of(points, lambda one: is_there(one, wanted), nth)
@@ -69,12 +71,13 @@ def told(found: Optional[Point], wanted: Point, mark: Mark) -> str:
     said = "there" if found.line == wanted.line or not wanted.line else f"now {found.place()}"
     if found.access != wanted.access:
         said += f", as {found.access}"
-    return said if wanted is mark.point else f"{said}, by what it has to come after: {found.place()}"
+    return (said if wanted is mark.point
+            else f"{said}, by what it has to come after: {found.place()}")
 
 
 def find_like(points: Points, mark: Mark) -> Optional[Found]:
-    """By a line of the function that is like it, by its access of the object alone, or by its text in
-    another function or of another object."""
+    """By a line of the function that is like it, by its access of the object alone, or by its text
+    in another function or of another object."""
     return next((found for found in (*alike(points, mark), *renamed(points, mark)) if found), None)
 
 
@@ -82,11 +85,13 @@ def alike(points: Points, mark: Mark) -> Iterator[Optional[Found]]:
     for wanted, nth in wanted_of(mark):
         near = near_line(points, wanted)
         if near:
-            at = nth_of(points, lambda one: one.symbol == wanted.symbol and is_text_of(one, near), nth)
-            yield Found(at, f"the line is another now: {near.place()}   {near.text}") if at is not None else None
+            at = nth_of(points,
+                        lambda one: one.symbol == wanted.symbol and is_text_of(one, near), nth)
+            yield (Found(at, f"the line is another now: {near.place()}   {near.text}")
+                   if at is not None else None)
         if wanted is mark.point and wanted.symbol != NO_SYMBOL:
-            at = nth_of(points, lambda one: one.is_access_of(wanted) and one.function == wanted.function,
-                        mark.in_function)
+            at = nth_of(points, lambda one: one.is_access_of(wanted)
+                        and one.function == wanted.function, mark.in_function)
             one = points[at] if at is not None else None
             if at is not None and one:
                 yield Found(at, f"by its {wanted.what()} alone, now {one.place()}")
@@ -98,13 +103,16 @@ def is_text_of(one: Point, near: Optional[Point]) -> bool:
 
 def renamed(points: Points, mark: Mark) -> Iterator[Optional[Found]]:
     for wanted, nth in wanted_of(mark):
-        at = nth_of(points, lambda one: one.access == wanted.access and one.text == wanted.text != "", nth)
+        at = nth_of(points,
+                    lambda one: one.access == wanted.access and one.text == wanted.text != "", nth)
         near = near_line(points, wanted) if at is None else None
         if near:
-            at = nth_of(points, lambda one: one.access == wanted.access and is_text_of(one, near), nth)
+            at = nth_of(points,
+                        lambda one: one.access == wanted.access and is_text_of(one, near), nth)
         one = points[at] if at is not None else None
         if at is not None and one:
-            what = f"in {one.function}" if one.function != wanted.function else f"of {one.symbol}, not {wanted.symbol}"
+            what = (f"in {one.function}" if one.function != wanted.function
+                    else f"of {one.symbol}, not {wanted.symbol}")
             yield Found(at, f"renamed, it seems: {one.access} {what}, now {one.place()}")
 
 
@@ -112,7 +120,8 @@ def near_line(points: Points, wanted: Point) -> Optional[Point]:
     """The line of the function whose text is nearest to one that is known."""
     if not wanted.text:
         return None
-    texts = {one.text: one for one in points if one and one.function == wanted.function and one.text}
+    texts = {one.text: one
+             for one in points if one and one.function == wanted.function and one.text}
     near = difflib.get_close_matches(wanted.text, list(texts)[:MOST_TEXTS], 1, ALIKE)
     return texts[near[0]] if near else None
 
@@ -120,11 +129,12 @@ def near_line(points: Points, wanted: Point) -> Optional[Point]:
 def missing(points: Points, mark: Mark) -> str:
     """Why a mark has no place any more."""
     wanted = mark.point
-    times = max(on_line(points, wanted),
-                count_of(points, lambda one: one.is_access_of(wanted) and one.function == wanted.function))
+    times = max(on_line(points, wanted), count_of(points, lambda one: one.is_access_of(wanted)
+                                                  and one.function == wanted.function))
     if not times and wanted.symbol != NO_SYMBOL:        # `find` takes these too
         others = other_accesses(wanted)
-        times = count_of(points, lambda one: one.access in others and one.symbol == wanted.symbol and one.is_line_of(wanted))
+        times = count_of(points, lambda one: one.access in others and one.symbol == wanted.symbol
+                         and one.is_line_of(wanted))
     if times:
         return f"hart {mark.hart} does it {counted(times, 'time')}, not {mark.nth}"
     met = [one for one in points if one and one.function == wanted.function]
@@ -132,4 +142,5 @@ def missing(points: Points, mark: Mark) -> str:
         return f"hart {mark.hart} doesn't come to {wanted.function}"
     near = min(met, key=lambda one: abs(one.line - wanted.line))
     like = f" like '{wanted.text}'" if wanted.text else ""
-    return f"{wanted.function} has no {wanted.what()}{like}; the nearest is {near.what()} in {near.place()}"
+    return (f"{wanted.function} has no {wanted.what()}{like}; "
+            f"the nearest is {near.what()} in {near.place()}")

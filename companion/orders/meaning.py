@@ -1,4 +1,5 @@
-"""Tells points of rows: what the turns of a hart ended with, by meaning, in one build of a program."""
+"""Tells points of rows: what the turns of a hart ended with, by meaning, in one build of a
+program."""
 from __future__ import annotations
 
 import re
@@ -22,14 +23,17 @@ TWO = 2                     # frames: a line and the one that called it
 
 
 class Turn:
-    """A turn of a hart. Of most neither the row nor the calls over it are asked for, so both are read late.
+    """A turn of a hart. Of most neither the row nor the calls over it are asked for, so both are
+    read late.
 
     text   of the row with which it ended, or nothing
     what   the row's address, instruction and accesses, without values
     place  at or before which it stands in its chunk"""
 
     def __init__(self, text: bytes = b"", chunk: Optional[Chunk] = None, place: int = 0) -> None:
-        self.text, self.chunk, self.place = text, chunk, place
+        self.text = text
+        self.chunk = chunk
+        self.place = place
         self.what = VALUE.sub(b"", text.split(b" ", 2)[2]) if text else b""
 
     @property
@@ -67,7 +71,9 @@ class Meaning:
     """elf     the build that runs; named: the same with its names"""
 
     def __init__(self, program: Program) -> None:
-        self.elf, self.named, self.places = program.elf, program.named, program.places
+        self.elf = program.elf
+        self.named = program.named
+        self.places = program.places
         self.entries = entries_of(self.named)
         self.known: dict[tuple[int, str, str, tuple[int, ...]], Point] = {}
         self.by_text: dict[bytes, Point] = {}   # by what a turn's row does, without callers
@@ -99,7 +105,8 @@ class Meaning:
         return Point(FAULT, NO_SYMBOL, function, file, line, self.places.text_of(frames[1]))
 
     def trouble(self) -> List[str]:
-        """What is to be said of its lines; but not that a library's sources aren't here, if others are."""
+        """What is to be said of its lines; but not that a library's sources aren't here, if others
+        are."""
         has_text = any(point.text for point in self.known.values())
         return [] if has_text and not self.places.sources.newer else self.places.trouble()
 
@@ -127,16 +134,20 @@ class Meaning:
     def turns(self, text_of: Callable[[Interval], bytes], intervals: Sequence[Interval],
               first: int) -> Iterator[Turn]:
         """The turns of a hart from one on, by what `replay` prints of its intervals."""
-        stacks = Stacks(self.entries, 2)        # which follows places in a chunk, as of several harts
+        # Which follows places in a chunk, as of several harts
+        stacks = Stacks(self.entries, 2)
         for interval in intervals:
             text = b"\n" + text_of(interval).rstrip(b"\n")
             stacks.take(OTHER_LINES.sub(b"", text))
             matches = list(turn_matches(text + b"\n"))
-            yield from turns_of_chunk(matches[max(0, first):], stacks.chunk, len(text) - len(stacks.chunk.text))
+            yield from turns_of_chunk(matches[max(0, first):], stacks.chunk,
+                                      len(text) - len(stacks.chunk.text))
             first -= len(matches)
 
 
 def turns_of_chunk(matches: Sequence[Match[bytes]], chunk: Chunk, removed: int) -> Iterator[Turn]:
-    """Those of an interval, whose chunk lacks so many bytes of other lines: no row's place in it is earlier by more."""
+    """Those of an interval, whose chunk lacks so many bytes of other lines: no row's place in it is
+    earlier by more."""
     for match in matches:
-        yield Turn() if match[0].startswith(b"end ") else Turn(match[0], chunk, max(0, match.start() - 1 - removed))
+        yield Turn() if match[0].startswith(b"end ") else Turn(match[0], chunk,
+                                                               max(0, match.start() - 1 - removed))

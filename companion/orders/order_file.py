@@ -1,4 +1,5 @@
-"""Order files: an order of harts as text, which is kept beside the sources as a test. docs/ORDERS.md has their grammar.
+"""Order files: an order of harts as text, which is kept beside the sources as a test.
+docs/ORDERS.md has their grammar.
 
 A file that is written is read again to the same order, and that is written as the same bytes."""
 from __future__ import annotations
@@ -20,13 +21,19 @@ from .marks import EXIT, FAULT, LIMIT, NO_SYMBOL, OUTPUT, Ended, Mark, Order, Po
 from .record import RANGES
 
 HEAD = "zelkuma order 1"
-NUMBERED, FIRST_LINE = "zelkuma order ", 100    # what each version begins with; bytes that are looked at for it
-SUFFIX, INPUT_SUFFIX = ".order", ".input"
+NUMBERED = "zelkuma order "  # what each version begins with
+FIRST_LINE = 100  # bytes that are looked at for it
+SUFFIX = ".order"
+INPUT_SUFFIX = ".input"
 # What a setting is that a file doesn't name; it stays so for files of this version.
 DEFAULTS = {"--format": "2", "--harts": "1", "--interval": "100000", "--limit": "1000000000",
-            "--log-size": "1048576", "--memory": "1048576", "--sets": "64", "--ways": "4", "--line": "8"}
-LARGEST, MOST_MARKS = 1 << 20, 1000         # bytes of a file, and switches in it
-LONGEST_TEXT, MOST_INPUT = 4096, 1 << 24    # bytes of an input that stands in the file; that record takes
+            "--log-size": "1048576", "--memory": "1048576", "--sets": "64",
+            "--ways": "4", "--line": "8"}
+# Bytes of a file, and switches in it
+LARGEST = 1 << 20
+MOST_MARKS = 1000
+LONGEST_TEXT = 4096  # bytes of an input that stands in the file
+MOST_INPUT = 1 << 24  # that record takes
 LARGEST_BYTE = 255
 LONGEST_NUMBER = 40                         # digits of a setting: 20, of which `G` makes ten more
 PART = 64                                   # bytes of an input in a line
@@ -34,7 +41,8 @@ BARE = r'[^\s"|#<\\]+'
 WORD = rf'(?:"(?:[^"\\]|\\.)*"|{BARE})'
 COUNT = r"[1-9][0-9]{0,8}"
 COUNTS = rf"(?: #(?P<nth>{COUNT})(?:/(?P<in_function>{COUNT}))?)?"
-PLACE = rf"(?P<function>{WORD}){COUNTS}(?: (?P<file>{WORD}):(?P<line>{COUNT}))?(?: \| (?P<text>.*))?"
+PLACE = (rf"(?P<function>{WORD}){COUNTS}(?: (?P<file>{WORD}):(?P<line>{COUNT}))?(?: "
+         r"\| (?P<text>.*))?")
 POINT = rf"(?P<access>load|store|atomic|call)(?: (?P<symbol>{WORD}))? in {PLACE}"
 HART = r"(?P<hart>[0-9]{1,2})"
 ESCAPES = {"n": 10, "t": 9, "\\": 92, '"': 34}
@@ -44,7 +52,8 @@ ESCAPE = re.compile(rb'\\(?:x([0-9a-f]{2})|([nt\\"]))')
 def quoted(data: bytes) -> str:
     """Bytes as a word in quotes."""
     letters = {value: "\\" + letter for letter, value in ESCAPES.items()}
-    return '"' + "".join(letters.get(c) or (chr(c) if 32 <= c < 127 else f"\\x{c:02x}") for c in data) + '"'
+    return '"' + "".join(letters.get(c) or (chr(c) if 32 <= c < 127 else f"\\x{c:02x}")
+                         for c in data) + '"'
 
 
 def unquoted(word: str) -> bytes:
@@ -54,7 +63,8 @@ def unquoted(word: str) -> bytes:
         return data
     if b"\\" in ESCAPE.sub(b"", data):
         raise ValueError("an escape is none of \\n \\t \\\\ \\\" \\xNN")
-    return ESCAPE.sub(lambda found: bytes([int(found[1], 16) if found[1] else ESCAPES[found[2].decode()]]), data[1:-1])
+    return ESCAPE.sub(lambda found: bytes([int(found[1], 16) if found[1]
+                                           else ESCAPES[found[2].decode()]]), data[1:-1])
 
 
 def word_of(name: str) -> str:
@@ -82,16 +92,20 @@ def point_text(point: Point, counts: str = "") -> str:
 
 def counts_text(nth: int, in_function: int) -> str:
     """Counts that are 1 aren't written; nor is the second one if it is the first."""
-    return f" #{nth}/{in_function}" if in_function != nth else f" #{nth}" if nth != 1 else ""
+    if in_function != nth:
+        return f" #{nth}/{in_function}"
+    return f" #{nth}" if nth != 1 else ""
 
 
 def mark_lines(mark: Mark) -> List[str]:
-    said = [f"hart {mark.hart} until {point_text(mark.point, counts_text(mark.nth, mark.in_function))}"]
+    said = [f"hart {mark.hart} until "
+            f"{point_text(mark.point, counts_text(mark.nth, mark.in_function))}"]
     if mark.point.callers:
         under = " < ".join(map(word_of, mark.point.callers))
         said.append(f"  under {under}" + (f" #{mark.under}" if mark.under != 1 else ""))
     if mark.after:
-        said.append(f"  not before {point_text(mark.after, counts_text(mark.nth_after, mark.nth_after))}")
+        said.append("  not before "
+                    f"{point_text(mark.after, counts_text(mark.nth_after, mark.nth_after))}")
     return said + ([f"  not after {point_text(mark.before)}"] if mark.before else [])
 
 
@@ -100,7 +114,8 @@ def end_lines(end: Ended) -> List[str]:
         said = [f"end fault {end.reason}" + (f" in {place_text(end.point)}" if end.point else "")]
         return said + ([f"  from {place_text(end.caller)}"] if end.caller else [])
     if end.kind == LIMIT:
-        return ["end limit"] + ["  hart %d waits for %s" % (hart, " ".join(map(word_of, words)) if words else NO_SYMBOL)
+        return ["end limit"] + ["  hart %d waits for "
+                                "%s" % (hart, " ".join(map(word_of, words)) if words else NO_SYMBOL)
                                 for hart, words in end.waits]
     return [f"end exit {end.value}" if end.kind == EXIT else f"end output {end.place} {end.value}"]
 
@@ -111,19 +126,22 @@ def input_lines(order: Order, name: str) -> List[str]:
         return []
     if len(order.input) > LONGEST_TEXT:
         return [f"input-file {word_of(os.path.basename(name) + INPUT_SUFFIX)}"]
-    parts = [line[at:at + PART] for line in order.input.splitlines(True) for at in range(0, len(line), PART)]
+    parts = [line[at:at + PART] for line in order.input.splitlines(True)
+             for at in range(0, len(line), PART)]
     return [f"input {quoted(part)}" for part in parts or [b""]]
 
 
 def order_text(order: Order, name: str) -> str:
     """What a file of this name gets."""
     said = [HEAD, f"program {word_of(order.program)}"]
-    said += ["set " + " ".join(f"{option}={value}" for option, value in order.settings.items())] if order.settings else []
+    said += (["set " + " ".join(f"{option}={value}" for option, value in order.settings.items())]
+             if order.settings else [])
     said += input_lines(order, name)
     said += end_lines(order.end) if order.end else []
     said += [f"power {order.power.met} of {order.power.tried}"] if order.power else []
     said += [line for mark in order.marks for line in mark_lines(mark)]
-    return "\n".join(said + ([f"hart {order.last} to the end"] if order.last is not None else [])) + "\n"
+    return ("\n".join(said + ([f"hart {order.last} to the end"] if order.last is not None else []))
+            + "\n")
 
 
 def is_order(name: str) -> bool:
@@ -159,7 +177,8 @@ def targets_of(name: str, input_name: str, read: Sequence[str]) -> Targets:
 
 def input_target(name: str, data: bytes, read: Sequence[str]) -> Target:
     """The file of an input, beside one of a name. An old one is kept unless it is the same."""
-    return target(name + INPUT_SUFFIX, Kind("the same input", lambda old: Path(old).read_bytes() == data), read)
+    return target(name + INPUT_SUFFIX,
+                  Kind("the same input", lambda old: Path(old).read_bytes() == data), read)
 
 
 @dataclass
@@ -205,7 +224,8 @@ class Reading:
         self.parts.append(unquoted(found["word"]))
         data = b"".join(self.parts)
         if len(data) > LONGEST_TEXT:
-            self.refuse(f"an input of over {LONGEST_TEXT} bytes has to stand in a file of its own: input-file NAME")
+            self.refuse(f"an input of over {LONGEST_TEXT} bytes has to stand in a file of its own: "
+                        "input-file NAME")
         self.put(input=data)
 
     def input_file(self, found: Dict[str, str]) -> None:
@@ -244,7 +264,9 @@ class Reading:
         end = self.order.end
         if self.open != LIMIT or end is None:
             self.refuse("it has to stand below 'end limit'")
-        self.put(end=end._replace(waits=(*end.waits, (self.hart(found), tuple(word for word in words if word != NO_SYMBOL)))))
+        self.put(end=end._replace(waits=(*end.waits,
+                                         (self.hart(found),
+                                          tuple(word for word in words if word != NO_SYMBOL)))))
 
     def exit(self, found: Dict[str, str]) -> None:
         self.end(Ended(EXIT, value=int(found["value"])))
@@ -264,7 +286,8 @@ class Reading:
     def hart(self, found: Dict[str, str]) -> int:
         hart = int(found["hart"])
         if hart >= self.order.harts:
-            self.refuse(f"there is no hart {hart}: a line 'set --harts=N' before it says how many there are, here {self.order.harts}")
+            self.refuse(f"there is no hart {hart}: a line 'set --harts=N' before it says how many "
+                        f"there are, here {self.order.harts}")
         return hart
 
     def until(self, found: Dict[str, str]) -> None:
@@ -273,7 +296,8 @@ class Reading:
         if len(self.order.marks) >= MOST_MARKS:
             self.refuse(f"an order has at most {MOST_MARKS} switches")
         nth = int(found["nth"] or 1)
-        self.put(marks=(*self.order.marks, Mark(self.hart(found), point_of(found), nth, int(found["in_function"] or nth))))
+        self.put(marks=(*self.order.marks, Mark(self.hart(found), point_of(found), nth,
+                                                int(found["in_function"] or nth))))
         self.open = "hart"
 
     def change(self, **parts: Any) -> None:
@@ -306,28 +330,31 @@ def place_of(access: str, found: Dict[str, str], symbol: str = NO_SYMBOL) -> Poi
 
 
 def point_of(found: Dict[str, str]) -> Point:
-    return place_of(found["access"], found, name_of(found["symbol"]) if found["symbol"] else NO_SYMBOL)
+    return place_of(found["access"], found,
+                    name_of(found["symbol"]) if found["symbol"] else NO_SYMBOL)
 
 
-# The lines of a file, each with what reads it. The last two blanks of a line that belongs to another are part of it.
-LINES: Tuple[Tuple[Pattern[str], Callable[[Reading, Dict[str, str]], None]], ...] = tuple((re.compile(form), read) for form, read in (
-    (rf"program (?P<word>{WORD})", Reading.program),
-    (r"set (?P<rest>.+)", Reading.settings),
-    (r'input (?P<word>"(?:[^"\\]|\\.)*")', Reading.input),
-    (rf"input-file (?P<word>{WORD})", Reading.input_file),
-    (rf"end fault (?P<reason>[A-Za-z]+)(?: in {PLACE})?", Reading.fault),
-    (rf"  from {PLACE}", Reading.called_from),
-    (r"end limit", Reading.limit),
-    (rf"  hart {HART} waits for (?P<rest>{WORD}(?: {WORD})*)", Reading.waits),
-    (r"end exit (?P<value>[1-9][0-9]{0,9})", Reading.exit),
-    (r"end output (?P<place>[0-9]{1,9}) (?P<value>[0-9]{1,3})", Reading.output),
-    (r"power (?P<met>[0-9]{1,9}) of (?P<tried>[0-9]{1,9})", Reading.power),
-    (rf"hart {HART} until {POINT}", Reading.until),
-    (rf"  under (?P<rest>{WORD}(?: < {WORD})*)(?: #(?P<nth>{COUNT}))?", Reading.under),
-    (rf"  not before {POINT}", Reading.not_before),
-    (rf"  not after {POINT}", Reading.not_after),
-    (rf"hart {HART} to the end", Reading.to_the_end),
-))
+# The lines of a file, each with what reads it. The last two blanks of a line that belongs to
+# another are part of it.
+LINES: Tuple[Tuple[Pattern[str], Callable[[Reading, Dict[str, str]], None]], ...] = tuple(
+    (re.compile(form), read) for form, read in (
+        (rf"program (?P<word>{WORD})", Reading.program),
+        (r"set (?P<rest>.+)", Reading.settings),
+        (r'input (?P<word>"(?:[^"\\]|\\.)*")', Reading.input),
+        (rf"input-file (?P<word>{WORD})", Reading.input_file),
+        (rf"end fault (?P<reason>[A-Za-z]+)(?: in {PLACE})?", Reading.fault),
+        (rf"  from {PLACE}", Reading.called_from),
+        (r"end limit", Reading.limit),
+        (rf"  hart {HART} waits for (?P<rest>{WORD}(?: {WORD})*)", Reading.waits),
+        (r"end exit (?P<value>[1-9][0-9]{0,9})", Reading.exit),
+        (r"end output (?P<place>[0-9]{1,9}) (?P<value>[0-9]{1,3})", Reading.output),
+        (r"power (?P<met>[0-9]{1,9}) of (?P<tried>[0-9]{1,9})", Reading.power),
+        (rf"hart {HART} until {POINT}", Reading.until),
+        (rf"  under (?P<rest>{WORD}(?: < {WORD})*)(?: #(?P<nth>{COUNT}))?", Reading.under),
+        (rf"  not before {POINT}", Reading.not_before),
+        (rf"  not after {POINT}", Reading.not_after),
+        (rf"hart {HART} to the end", Reading.to_the_end),
+    ))
 
 
 def take_line(reading: Reading, line: str) -> None:
@@ -352,7 +379,8 @@ def why_none(data: bytes) -> str:
     if not data.startswith(NUMBERED.encode()):
         return f"its first line has to be '{HEAD}'"
     if first != HEAD.encode():
-        return f"its first line has to be '{HEAD}'; it is of another version than {HEAD[len(NUMBERED):]}"
+        return (f"its first line has to be '{HEAD}'; "
+                f"it is of another version than {HEAD[len(NUMBERED):]}")
     return f"it has over {LARGEST} bytes" if len(data) > LARGEST else "it isn't UTF-8"
 
 
@@ -376,7 +404,8 @@ def read_order(name: str) -> Order:
         try:
             take_line(reading, line.rstrip("\r"))
         except (ValueError, OSError) as error:
-            why = f"{error.filename}: {error.strerror}" if isinstance(error, OSError) else str(error)
+            why = (f"{error.filename}: {error.strerror}" if isinstance(error, OSError)
+                   else str(error))
             raise CompanionError(f"{name}: line {number}: {line[:80]!r}: {why}", REFUSED)
     return checked(reading.order, name)
 

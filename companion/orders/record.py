@@ -1,4 +1,5 @@
-"""Recordings that a companion makes: the words of `record`, the turns that a recording takes, and its command."""
+"""Recordings that a companion makes: the words of `record`, the turns that a recording takes, and
+its command."""
 from __future__ import annotations
 
 import os
@@ -19,13 +20,17 @@ from ..recording.log import MOST_HARTS
 
 RECORD_FORM = "[OPTION..] ELF LOG BOOK, as for record, but for --seed"
 ELF_FORM = "[OPTION..] ELF, as for record, but for --seed; with --all no LOG and BOOK are named"
-# What `record` takes at least and at most for each. Some have to be powers of two or the like too, which it tests itself.
-RANGES = {"--format": (1, 2), "--harts": (1, MOST_HARTS), "--interval": (1, 10000000), "--limit": (1, 1 << 40),
-          "--log-size": (1 << 14, 1 << 28), "--memory": (1 << 16, 1 << 26), "--sets": (1, 1024), "--ways": (1, 16), "--line": (1, 16),
+# What `record` takes at least and at most for each. Some have to be powers of two or the like too,
+# which it tests itself.
+RANGES = {"--format": (1, 2), "--harts": (1, MOST_HARTS), "--interval": (1, 10000000),
+          "--limit": (1, 1 << 40), "--log-size": (1 << 14, 1 << 28), "--memory": (1 << 16, 1 << 26),
+          "--sets": (1, 1024), "--ways": (1, 16), "--line": (1, 16),
           "--sets2": (1, 4096), "--ways2": (1, 16)}
 NUMBERS = list(RANGES)
-RECORD_OPTIONS = {"--lean": False, "--seed": True, "--input": True, **{name: True for name in NUMBERS}}
-SCHEDULE = "ZELKUMA_SCHEDULE"   # the name in the environment of the turns that a recording without a seed takes
+RECORD_OPTIONS = {"--lean": False, "--seed": True, "--input": True,
+                  **{name: True for name in NUMBERS}}
+# The name in the environment of the turns that a recording without a seed takes
+SCHEDULE = "ZELKUMA_SCHEDULE"
 ENDS = DONE, FAULT, LIMIT = 0, 10, 11   # the statuses of recordings that were made
 
 
@@ -35,7 +40,8 @@ class Kind(IntEnum):
 
 
 class Plan(NamedTuple):
-    """A number, and how turns are drawn from it; of a recording in threads it only counts. Plans are tried in order."""
+    """A number, and how turns are drawn from it; of a recording in threads it only counts. Plans
+    are tried in order."""
     number: int
     kind: Kind
 
@@ -46,7 +52,8 @@ class Plan(NamedTuple):
         return [f"--seed={self.number}"] if self.kind is Kind.SEED else []
 
     def schedule(self) -> str:
-        return f"{self.kind.name.lower()}:{self.number}" if self.kind in (Kind.BURSTS, Kind.SLEEPER) else ""
+        return (f"{self.kind.name.lower()}:{self.number}"
+                if self.kind in (Kind.BURSTS, Kind.SLEEPER) else "")
 
 
 class RecordWords:
@@ -58,22 +65,25 @@ class RecordWords:
     is_lean  whether no BOOK is saved"""
 
     def __init__(self, words: Sequence[str], folder: str = "") -> None:
-        self.names, options = parse(words, RECORD_OPTIONS, ["ELF"] if folder else range(2, 4), ELF_FORM if folder else RECORD_FORM)
-        self.folder, self.is_lean = folder, "--lean" in options
+        self.names, options = parse(words, RECORD_OPTIONS, ["ELF"] if folder else range(2, 4),
+                                    ELF_FORM if folder else RECORD_FORM)
+        self.folder = folder
+        self.is_lean = "--lean" in options
         self.has_one_hart = decimal(options.get("--harts", "1")) == "1"
         if "--seed" in options:
             raise CompanionError("the seeds are FROM to TO, so --seed can't be given", REFUSED)
         if len(self.names) == 2 and not self.is_lean:
             raise CompanionError("the words of record have no BOOK", REFUSED)
         self.elf, *self.outputs = self.names
-        self.options = [f"{name}={decimal(value) if name in NUMBERS else value}" if RECORD_OPTIONS[name] else name
-                        for name, value in options.items()]
+        self.options = [f"{name}={decimal(value) if name in NUMBERS else value}"
+                        if RECORD_OPTIONS[name] else name for name, value in options.items()]
         self.read = self.elf, options.get("--input", "")
         check_regular(*self.read)
         self.named_targets = self.saved(self.outputs)
 
     def saved(self, names: Sequence[str]) -> list[Target]:
-        return [target(name, kind, [*self.read, *names[:at]]) for at, (name, kind) in enumerate(zip(names, (LOG, TURNS)))]
+        return [target(name, kind, [*self.read, *names[:at]])
+                for at, (name, kind) in enumerate(zip(names, (LOG, TURNS)))]
 
     def outputs_of(self, plan: Plan) -> list[str]:
         """The names of LOG and BOOK in the end."""
@@ -92,20 +102,24 @@ class RecordWords:
         return ["record", *self.options, *plan.options(), "--", self.elf, *outputs]
 
     def shown(self, plan: Plan) -> str:
-        """What to type for the same recording. One in threads has its turns from BOOK, and so leaves it alone."""
-        names, schedule = self.outputs_of(plan), plan.schedule()
+        """What to type for the same recording. One in threads has its turns from BOOK, and so
+        leaves it alone."""
+        names = self.outputs_of(plan)
+        schedule = plan.schedule()
         if plan.kind is Kind.THREADS:
             schedule = f"book:{names[1]}"
             names = [name + ".again" for name in names]
         names = [self.elf, *names]
         words = ["zelkuma", "record", *self.options, *plan.options()]
         words += ["--"] * any(name.startswith("-") for name in names) + names
-        return " ".join([f"{SCHEDULE}={shlex.quote(schedule)}"] * bool(schedule) + [shlex.quote(word) for word in words])
+        return " ".join([f"{SCHEDULE}={shlex.quote(schedule)}"] * bool(schedule)
+                        + [shlex.quote(word) for word in words])
 
 
 class Quick:
-    """The program, started many times one after the other and side by side. What it prints goes into files: so a start costs
-    little, and its group ends what is under way when this process ends. Use it by `with`. `folder` is for its files."""
+    """The program, started many times one after the other and side by side. What it prints goes
+    into files: so a start costs little, and its group ends what is under way when this process
+    ends. Use it by `with`. `folder` is for its files."""
 
     def __init__(self, folder: str) -> None:
         self.folder = folder
@@ -120,7 +134,8 @@ class Quick:
         self.group.close()
 
     def start(self, said: str, err: str, *words: str, schedule: str = "") -> Process:
-        """A command, by these turns if it is `record`; without them its harts run in threads, whatever is set for this process."""
+        """A command, by these turns if it is `record`; without them its harts run in threads,
+        whatever is set for this process."""
         environment = {**self.environment, SCHEDULE: schedule} if schedule else self.environment
         return self.group.start([program.path(), *words], said, err, environment)
 

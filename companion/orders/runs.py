@@ -1,4 +1,5 @@
-"""Recordings of one build that `recheck` makes, and how each ends, in words that fit every build."""
+"""Recordings of one build that `recheck` makes, and how each ends, in words that fit every
+build."""
 from __future__ import annotations
 
 import os
@@ -23,8 +24,12 @@ from .same_end import Ends, Recording, byte_at, exit_code
 from .waiting import Waiting
 
 DEFAULT_LIMIT = 1000000000  # of record
-GROWN, MOST_LIMIT = 16, 1 << 40     # so many times the limit is tried before a run is called a hang
-LEAST_LOOK, PER_TURN = 1000000, 64  # instructions of a hart in a recording of which the first turns count
+# So many times the limit is tried before a run is called a hang
+GROWN = 16
+MOST_LIMIT = 1 << 40
+# Instructions of a hart in a recording of which the first turns count
+LEAST_LOOK = 1000000
+PER_TURN = 64
 LEAST_LOG = 1 << 24         # bytes of a log: all turns up to a mark have to be in it
 MOST_LOOK_ROWS = 20000000   # of a hart are replayed for one look
 
@@ -40,7 +45,8 @@ class Asked(NamedTuple):
 
 
 class Done(NamedTuple):
-    """How a recording ended; and whether that is with a greater limit, at the first of which it came to its end."""
+    """How a recording ended; and whether that is with a greater limit, at the first of which it
+    came to its end."""
     asked: Asked
     end: Ended
     is_slow: bool
@@ -64,7 +70,10 @@ class Runs:
     def __init__(self, quick: Quick, meaning: Meaning, options: Mapping[str, str],
                  wanted: Optional[Ended], jobs: int) -> None:
         log_size = max(LEAST_LOG, int(options.get("--log-size", "0")))
-        self.quick, self.meaning, self.jobs, self.wanted = quick, meaning, jobs, wanted
+        self.quick = quick
+        self.meaning = meaning
+        self.jobs = jobs
+        self.wanted = wanted
         self.options = {"--format": "2", **options, "--log-size": str(log_size)}
         self.limit = int(options.get("--limit", DEFAULT_LIMIT))
         self.count = self.longest = 0
@@ -80,12 +89,15 @@ class Runs:
         names = [os.path.join(self.quick.folder, f"recheck{self.count}.{kind}")
                  for kind in ("log", "book", "said", "err", "turns")]
         log, book, said, err, turns = names
-        schedule, seed = asked.schedule, None if asked.schedule else asked.seed
+        schedule = asked.schedule
+        seed = None if asked.schedule else asked.seed
         if asked.pieces is not None:
             Path(turns).write_bytes(turns_of(asked.pieces))
-            schedule, seed = f"book:{turns}", None
+            schedule = f"book:{turns}"
+            seed = None
         words = [*self.words(limit, seed), "--", self.meaning.elf.name, log, book]
-        return Made(number, asked, times, names, self.quick.start(said, err, *words, schedule=schedule))
+        return Made(number, asked, times, names,
+                    self.quick.start(said, err, *words, schedule=schedule))
 
     def take(self, made: Made, status: int) -> Recording:
         if status not in ENDS:
@@ -99,7 +111,8 @@ class Runs:
 
     def ended(self, made: Recording, is_deep: bool = True) -> Ended:
         """How a recording ended. Only a deep look tells for what a hart waits."""
-        wanted, ends = self.wanted, made.ends
+        wanted = self.wanted
+        ends = made.ends
         self.longest = max(self.longest, sum(end.count for end in ends.values()))
         if made.status == STATUS_FAULT:
             return self.fault(made)
@@ -109,14 +122,16 @@ class Runs:
             is_same = byte_at(made.said, wanted.place) == bytes([wanted.value])
             return wanted if is_same else Ended(WELL)
         code = exit_code(ends)
-        return Ended(EXIT, value=code) if code and (not wanted or wanted.kind == EXIT) else Ended(WELL)
+        return (Ended(EXIT, value=code) if code and (not wanted or wanted.kind == EXIT)
+                else Ended(WELL))
 
     def fault(self, made: Recording) -> Ended:
         log = made.read
         hart = next(hart for hart, end in log.ends.items() if is_fault(end.reason))
         found = Ends(self.quick, self.meaning.elf).faulted(log, hart)
         row = Row(hart, 0, found.pc, None, "", "", 0, None, None, found.reason)
-        return Ended(FAULT, found.reason, self.meaning.point(row), caller=self.meaning.caller(found.pc, found.calls))
+        return Ended(FAULT, found.reason, self.meaning.point(row),
+                     caller=self.meaning.caller(found.pc, found.calls))
 
     def waits(self, made: Recording) -> Tuple[Tuple[int, Tuple[str, ...]], ...]:
         exact = Ends(self.quick, self.meaning.elf).exact(made)
@@ -151,7 +166,8 @@ class Runs:
 
     def wait(self, running: Jobs[Made], waiting: Deque[Tuple[int, int]], ended: Dict[int, Done],
              is_deep: bool) -> None:
-        """Takes the next that ends; one that comes to its limit is made again with a greater one."""
+        """Takes the next that ends; one that comes to its limit is made again with a greater
+        one."""
         made, status = running.wait()
         if made is None:
             return
@@ -194,7 +210,8 @@ class Runs:
 
         if not mine or not most:
             return []
-        if mine[0].start > 0:                   # which no recording with so large a log and small a limit has
+        # Which no recording with so large a log and small a limit has
+        if mine[0].start > 0:
             return [Turn()] * most
         found: List[Turn] = []
         for turn in self.meaning.turns(text_of, mine, first):
@@ -205,6 +222,9 @@ class Runs:
 
     def command(self, book: str, input_name: str) -> str:
         """What to type for a recording of these turns."""
-        options = {**self.options, "--limit": str(self.limit), **({"--input": input_name} if input_name else {})}
-        words = ["zelkuma", "record", *(f"{name}={value}" for name, value in options.items()), self.meaning.elf.name]
-        return f"{SCHEDULE}={shlex.quote('book:' + book)} " + " ".join(map(shlex.quote, [*words, "LOG", "BOOK"]))
+        options = {**self.options, "--limit": str(self.limit),
+                   **({"--input": input_name} if input_name else {})}
+        words = ["zelkuma", "record", *(f"{name}={value}" for name, value in options.items()),
+                 self.meaning.elf.name]
+        return (f"{SCHEDULE}={shlex.quote('book:' + book)} "
+                + " ".join(map(shlex.quote, [*words, "LOG", "BOOK"])))

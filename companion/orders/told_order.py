@@ -1,4 +1,5 @@
-"""Tells a recording's order by meaning: from its shortest list of turns to the order that a file has."""
+"""Tells a recording's order by meaning: from its shortest list of turns to the order that a file
+has."""
 from __future__ import annotations
 
 import os
@@ -17,12 +18,14 @@ from .same_end import Recording, byte_at
 from .search import Search
 from .verdict import power_of
 
-LEAST_LIMIT = 20000         # of a run that hangs: a mended one has to come to its end within some times as much
+# Of a run that hangs: a mended one has to come to its end within some times as much
+LEAST_LIMIT = 20000
 
 
 def settings_told(options: Mapping[str, str]) -> dict[str, str]:
     """Those that aren't the defaults of an order file."""
-    return {name: options[name] for name in NUMBERS if name in options and options[name] != DEFAULTS.get(name)}
+    return {name: options[name]
+            for name in NUMBERS if name in options and options[name] != DEFAULTS.get(name)}
 
 
 def input_of(options: Mapping[str, str]) -> Optional[bytes]:
@@ -34,10 +37,14 @@ class Telling:
 
     offset  of the byte of the output that is asked of, or None"""
 
-    def __init__(self, quick: Quick, meaning: Meaning, options: Mapping[str, str], offset: Optional[int],
-                 tries: int, jobs: int) -> None:
-        self.quick, self.meaning, self.options, self.offset = quick, meaning, dict(options), offset
-        self.tries, self.jobs = tries, jobs
+    def __init__(self, quick: Quick, meaning: Meaning, options: Mapping[str, str],
+                 offset: Optional[int], tries: int, jobs: int) -> None:
+        self.quick = quick
+        self.meaning = meaning
+        self.options = dict(options)
+        self.offset = offset
+        self.tries = tries
+        self.jobs = jobs
 
     def of_one_hart(self) -> Order:
         runs = self.runs(None)
@@ -49,8 +56,8 @@ class Telling:
         runs = self.runs(None)
         made = runs.record(Asked(found.best))
         if not made.turns().startswith(turns_of(found.core)):
-            raise CompanionError("a full interval or log ends a turn of this order, as in no other build: give `record` "
-                                 "a larger --interval", REFUSED)
+            raise CompanionError("a full interval or log ends a turn of this order, "
+                                 "as in no other build: give `record` a larger --interval", REFUSED)
         end = self.end_of(runs, made)
         marks = self.marks(runs, made, found)
         options = self.options
@@ -65,7 +72,8 @@ class Telling:
         return Runs(self.quick, self.meaning, options or self.options, wanted, self.jobs)
 
     def order(self, options: Mapping[str, str], end: Ended) -> Order:
-        return Order(os.path.basename(self.meaning.elf.name), settings_told(options), input_of(options), end)
+        return Order(os.path.basename(self.meaning.elf.name),
+                     settings_told(options), input_of(options), end)
 
     def end_of(self, runs: Runs, made: Recording) -> Ended:
         if self.offset is None:
@@ -82,8 +90,10 @@ class Telling:
     def marks(self, runs: Runs, made: Recording, found: Search) -> List[Mark]:
         """A mark for each switch, with the points of its window."""
         pieces: Pieces = found.core
-        taken = {hart: sum(piece.turns for piece in pieces if piece.hart == hart) for hart, _ in pieces}
-        points = {hart: iter(self.points(runs.turns_of(made, hart, 0, turns))) for hart, turns in taken.items()}
+        taken = {hart: sum(piece.turns for piece in pieces if piece.hart == hart)
+                 for hart, _ in pieces}
+        points = {hart: iter(self.points(runs.turns_of(made, hart, 0, turns)))
+                  for hart, turns in taken.items()}
         marks = []
         for at, (hart, turns) in enumerate(pieces[:-1]):
             mine = [next(points[hart]) for _ in range(turns)]
@@ -91,7 +101,7 @@ class Telling:
             before = self.meaning.point(window.before) if window and window.before else None
             mark = mark_of(hart, mine, window.earlier if window else 0, before)
             if mark is None:
-                raise CompanionError(f"switch {at + 1} comes at an interval's end, as in no other build: give `record` a "
-                                     "larger --interval", REFUSED)
+                raise CompanionError(f"switch {at + 1} comes at an interval's end, as in no other "
+                                     "build: give `record` a larger --interval", REFUSED)
             marks.append(mark)
         return marks

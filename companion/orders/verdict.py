@@ -1,4 +1,5 @@
-"""Whether a build is mended: the order of a crash is carried over to it, and orders near that are tried."""
+"""Whether a build is mended: the order of a crash is carried over to it, and orders near that are
+tried."""
 from __future__ import annotations
 
 from dataclasses import dataclass, field
@@ -17,9 +18,11 @@ from .record import LIMIT as STATUS_LIMIT
 from .runs import GROWN, Asked, Runs
 
 HOLDS = 0                           # the status
-TRIES, MOST_TRIES = 300, 100000
+TRIES = 300
+MOST_TRIES = 100000
 MOST_INSTRUCTIONS = 20000000000     # of all orders near one; a run that is longer has fewer of them
-ENOUGH = 20                         # so many of the orders tried would crash if the build were the recorded one
+# So many of the orders tried would crash if the build were the recorded one
+ENOUGH = 20
 MOST_ENDINGS = 5                    # are told
 STATUS = {WELL: HOLDS, FAULT: STATUS_FAULT, LIMIT: STATUS_LIMIT}
 
@@ -34,8 +37,8 @@ class Ending:
 
 @dataclass
 class Near:
-    """Orders near one: how many were tried, how many end well only with a greater limit, and the bad
-    ends. `left_out` weren't tried, since the run is long."""
+    """Orders near one: how many were tried, how many end well only with a greater limit, and the
+    bad ends. `left_out` weren't tried, since the run is long."""
     tried: int = 0
     slow: int = 0
     left_out: int = 0
@@ -67,13 +70,15 @@ def near_of(runs: Runs, pieces: Pieces, harts: int, tries: int) -> Near:
     """Tries so many orders near one."""
     most = min(tries, MOST_INSTRUCTIONS // max(1, runs.longest))
     found = Near(left_out=tries - most)
-    by_end: Dict[Tuple[Ended, bool], Ending] = {}       # what called a line counts as far as that makes it the recorded end
+    # What called a line counts as far as that makes it the recorded end
+    by_end: Dict[Tuple[Ended, bool], Ending] = {}
     for done in runs.each(neighbours(pieces, harts, most)):
         found.tried += 1
         if done.end.kind == WELL:
             found.slow += done.is_slow
             continue
-        key = done.end._replace(caller=None), runs.wanted is not None and done.end.is_as(runs.wanted)
+        key = (done.end._replace(caller=None),
+               runs.wanted is not None and done.end.is_as(runs.wanted))
         by_end.setdefault(key, Ending(done.end, done.asked)).count += 1
     found.endings = sorted(by_end.values(), key=lambda ending: -ending.count)
     return found
@@ -97,7 +102,8 @@ def check(runs: Runs, order: Order, tries: int) -> Checked:
     if carried.kind != WELL:
         found.shown = Ending(carried, asked, 1)
     elif near.endings:
-        found.shown = next((ending for ending in near.endings if is_same(ending.end, order)), near.endings[0])
+        found.shown = next((ending for ending in near.endings if is_same(ending.end, order)),
+                           near.endings[0])
     judge(found)
     return found
 
@@ -107,7 +113,8 @@ def is_same(end: Ended, order: Order) -> bool:
 
 
 def judge(found: Checked) -> None:
-    order, near = found.order, found.near
+    order = found.order
+    near = found.near
     if found.shown:
         by = "by an order near it" if near.endings else "by the order itself"
         if is_same(found.shown.end, order):
@@ -118,7 +125,8 @@ def judge(found: Checked) -> None:
     elif order.harts == 1:
         found.verdict = "HOLDS for this input: one hart has one order"
     elif GONE in {step.how for step in found.steps} and expected(found) < ENOUGH:
-        found.verdict, found.status = "UNSURE: nothing ends badly, but the order could not be carried over", UNSURE
+        found.verdict = "UNSURE: nothing ends badly, but the order could not be carried over"
+        found.status = UNSURE
     else:
         is_kept = all(step.how == KEPT for step in found.steps)
         found.verdict = "HOLDS, as far as was tried: the order " + (
@@ -142,42 +150,51 @@ def lines(found: Checked) -> List[str]:
     said = [f"looked for: {order.end.text()}"] if order.end else []
     for at, step in enumerate(found.steps, 1):
         point = step.mark.point
-        said.append(f"{at:>3}. hart {step.mark.hart} until {point.what()} in {point.place()}: {step.said}")
-    kept, switches = sum(step.how == KEPT for step in found.steps), counted(len(found.steps), "switch")
+        said.append(f"{at:>3}. "
+                    f"hart {step.mark.hart} until {point.what()} in {point.place()}: {step.said}")
+    kept = sum(step.how == KEPT for step in found.steps)
+    switches = counted(len(found.steps), "switch")
     are = "is as it was" if len(found.steps) == 1 else "are as they were"
     by = f"{kept} of {switches} {are}; by this order: " if found.steps else ""
     return said + [by + found.carried.text()] + near_lines(found) + [found.verdict]
 
 
 def near_lines(found: Checked) -> List[str]:
-    near, power = found.near, found.order.power
+    near = found.near
+    power = found.order.power
     if not near.tried:
         return []
     end, do = ("ends", "does") if near.tried == 1 else ("end", "do")
     said = [f"{number(near.tried - near.bad)} of {counted(near.tried, 'order')} near it {end} well"]
     if power:
-        said[0] += f"; of the recorded build {number(power.tried - power.met)} of {number(power.tried)} {do}"
+        said[0] += (f"; of the recorded build {number(power.tried - power.met)} of "
+                    f"{number(power.tried)} {do}")
     else:
         said[0] += f"; how many of the recorded build {do} isn't known"
     if power and not power.met:
-        said.append("    none near it crashes in the recorded build, so these say nothing: the order alone does")
+        said.append("    none near it crashes in the recorded build, "
+                    "so these say nothing: the order alone does")
     if near.slow:
-        said.append(f"    {number(near.slow)} of them need more than the limit, and end well with {GROWN} times as much")
+        said.append(f"    {number(near.slow)} of them need more than the limit, "
+                    f"and end well with {GROWN} times as much")
     if near.left_out:
         said.append(f"    {number(near.left_out)} more are left out, since a run is long")
     for ending in near.endings[:MOST_ENDINGS]:
-        said.append(f"    {number(ending.count)}: {ending.end.text()}; first by {ending.first.text()}")
+        said.append(f"    {number(ending.count)}: {ending.end.text()}; "
+                    f"first by {ending.first.text()}")
     more = len(near.endings) - MOST_ENDINGS
     return said + ([f"    .. {counted(more, 'more end')} .."] if more > 0 else [])
 
 
 def answer(found: Checked) -> Dict[str, Any]:
-    order, near = found.order, found.near
+    order = found.order
+    near = found.near
     return {"program": order.program, "verdict": found.verdict, "status": found.status,
             "end": order.end.text() if order.end else "", "carried": found.carried.text(),
-            "switches": [{"hart": step.mark.hart, "point": point_text(step.mark.point), "how": step.how,
-                          "said": step.said} for step in found.steps[:LONGEST]],
-            "tried": near.tried, "well": near.tried - near.bad, "slow": near.slow, "left_out": near.left_out,
-            "power": list(order.power) if order.power else None,
-            "endings": [{"end": ending.end.text(), "count": ending.count, "first": ending.first.text()}
-                        for ending in near.endings[:LONGEST]], "recordings": found.recordings}
+            "switches": [{"hart": step.mark.hart, "point": point_text(step.mark.point),
+                          "how": step.how, "said": step.said} for step in found.steps[:LONGEST]],
+            "tried": near.tried, "well": near.tried - near.bad, "slow": near.slow,
+            "left_out": near.left_out, "power": list(order.power) if order.power else None,
+            "endings": [{"end": ending.end.text(), "count": ending.count,
+                         "first": ending.first.text()} for ending in near.endings[:LONGEST]],
+            "recordings": found.recordings}

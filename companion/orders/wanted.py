@@ -12,7 +12,8 @@ LARGEST_CODE = 255
 
 
 class Wanted(NamedTuple):
-    """text      as it was given, but that bytes of an output that are no UTF-8, and control characters, are shown as \\xNN
+    """text      as it was given, but that bytes of an output that are no UTF-8, and control
+    characters, are shown as \\xNN
     statuses  those of a recording that can be meant
     code      the exit code, if one is asked for; output: what the program has to write
     is_bad    whether any end is meant but exit code 0"""
@@ -33,12 +34,14 @@ class Wanted(NamedTuple):
 
     @property
     def has_slow_runs(self) -> bool:
-        """Whether a run that is slow, as one in threads can be, would be taken for one that hangs."""
+        """Whether a run that is slow, as one in threads can be, would be taken for one that
+        hangs."""
         return self.is_bad or self.statuses == (LIMIT,)
 
 
 def shown(output: bytes) -> str:
-    return "".join(c if c.isprintable() else ascii(c)[1:-1] for c in output.decode("utf-8", "backslashreplace"))
+    return "".join(c if c.isprintable() else ascii(c)[1:-1]
+                   for c in output.decode("utf-8", "backslashreplace"))
 
 
 def wanted_of(text: str) -> Wanted:

@@ -1,4 +1,5 @@
-"""C expressions at a line: gdb compiles them, and what they are is told of any pass, as their types write it."""
+"""C expressions at a line: gdb compiles them, and what they are is told of any pass, as their types
+write it."""
 from __future__ import annotations
 
 import re
@@ -19,9 +20,12 @@ from .types import Leaf, Type, bounded, leaves, value_text
 from .window import Window
 
 LINE = re.compile(r"[\w./+@-]+:\d{1,7}")
-MISTAKES = re.compile(r"No symbol|no member|syntax error|No type|No struct|No union|No enum|Invalid|Attempt to|ncast|Argument to|"
-                      r"not scalar|no component|Can't do|is a function")
-LONGEST_TEXT, MOST_PARTS, MOST_EXPRESSIONS = 60, 12, 32
+MISTAKES = re.compile(r"No symbol|no member|syntax error|No type|No struct|No union|No "
+                      r"enum|Invalid|Attempt to|ncast|Argument to|not scalar|no component|Can't "
+                      r"do|is a function")
+LONGEST_TEXT = 60
+MOST_PARTS = 12
+MOST_EXPRESSIONS = 32
 LOWEST = 4096               # no address below is mapped
 PC = len(NAMES)             # gdb's number of the program counter
 
@@ -54,7 +58,8 @@ class Expression:
         return [each for code in self.codes.values() for each in code]
 
     def has_memory(self) -> bool:
-        return self.is_whole or self.is_text or any(name.startswith("ref") for _, name, _ in self.operations())
+        return self.is_whole or self.is_text or any(name.startswith("ref")
+                                                    for _, name, _ in self.operations())
 
 
 class Compiled(NamedTuple):
@@ -64,7 +69,8 @@ class Compiled(NamedTuple):
 
 
 def compiled(elf: Elf, line: str, texts: Sequence[str]) -> Compiled:
-    """CompanionError if there is no such line, or an expression is none of C or of the program's names."""
+    """CompanionError if there is no such line, or an expression is none of C or of the program's
+    names."""
     if not LINE.fullmatch(line):
         raise CompanionError(f"a line has to be FILE:LINE, not {line!r}", REFUSED)
     if not 1 <= len(texts) <= MOST_EXPRESSIONS:
@@ -74,13 +80,16 @@ def compiled(elf: Elf, line: str, texts: Sequence[str]) -> Compiled:
         raise CompanionError(f"{unclean!r} is no expression", REFUSED)
     answer = told_by_gdb(elf, line=line, expressions=list(texts))
     if not answer.get("places"):
-        raise CompanionError(f"{line} has no code: {clean(answer.get('error', 'gdb knows none'))}", MISSING)
-    return Compiled(answer["places"], [Expression.of(*each) for each in zip(texts, answer["expressions"])])
+        raise CompanionError(f"{line} has no code: {clean(answer.get('error', 'gdb knows none'))}",
+                             MISSING)
+    return Compiled(answer["places"],
+                    [Expression.of(*each) for each in zip(texts, answer["expressions"])])
 
 
 @dataclass(frozen=True)
 class Pass:
-    """A row at which a line begins: its hart, its count, its address, and its place in the latest chunk."""
+    """A row at which a line begins: its hart, its count, its address, and its place in the latest
+    chunk."""
     hart: bytes
     count: int
     pc: int
@@ -91,11 +100,15 @@ class Values:
     """What expressions are at passes, which are asked of in the rows' order."""
 
     def __init__(self, asked: Asked, expressions: Sequence[Expression]) -> None:
-        self.asked, self.memory = asked, FollowedMemory(asked.log, asked.elf, asked.is_whole)
+        self.asked = asked
+        self.memory = FollowedMemory(asked.log, asked.elf, asked.is_whole)
         self.follows = any(each.has_memory() for each in expressions)
-        self.window = Window(0)                 # of the rows before the latest chunk the last values are enough
-        numbers = {number for each in expressions for _, name, number in each.operations() if name == "reg"}
-        self.registers = Registers(asked.log, self.window, [NAMES[number] for number in sorted(numbers) if number < PC])
+        # Of the rows before the latest chunk the last values are enough
+        self.window = Window(0)
+        numbers = {number for each in expressions
+                   for _, name, number in each.operations() if name == "reg"}
+        self.registers = Registers(asked.log, self.window,
+                                   [NAMES[number] for number in sorted(numbers) if number < PC])
         self.now = Pass(b"", 0, 0, 0)
 
     def take(self, text: bytes) -> None:
@@ -116,7 +129,8 @@ class Values:
             return self.now.pc if number else 0
         if number > PC:
             raise Unknown("a register that harts haven't got")
-        found = self.registers.value(self.now.hart, NAMES[number].encode(), self.window.begins[-1] + self.now.place)
+        found = self.registers.value(self.now.hart, NAMES[number].encode(),
+                                     self.window.begins[-1] + self.now.place)
         if found is None:
             raise Unknown(f"no row tells {NAMES[number]}")
         return found
@@ -142,10 +156,13 @@ class Values:
         if of.error:
             return f"<{of.error}>"
         try:
-            number, size = self.number(of), int(of.type["size"])
+            number = self.number(of)
+            size = int(of.type["size"])
             address = number & 0xffffffff
             if not of.is_whole:
-                said = value_text(Leaf("", 0, of.type), (number & (1 << 8 * size) - 1).to_bytes(size, "little"), self.asked.name_of)
+                said = value_text(Leaf("", 0, of.type),
+                                  (number & (1 << 8 * size) - 1).to_bytes(size, "little"),
+                                  self.asked.name_of)
                 return f"{said} {self.letters(address, LONGEST_TEXT)}" if of.is_text else said
             return self.letters(address, size) if of.is_text else self.parts(of.type, address)
         except Unknown as error:
@@ -153,11 +170,12 @@ class Values:
 
     def parts(self, of: Type, address: int) -> str:
         """The first parts of a value in memory. One that isn't known is told as such."""
-        found, size = list(islice(leaves(of, 0, of["size"]), MOST_PARTS + 1)), int(of["size"])
+        found = list(islice(leaves(of, 0, of["size"]), MOST_PARTS + 1))
+        size = int(of["size"])
         if not LOWEST <= address <= self.asked.log.memory - size:
             raise Unknown(f"no memory at {address:08x}")
-        told = [value_text(leaf, self.memory.memory.read(address + leaf.at, leaf.size), self.asked.name_of)
-                for leaf in found[:MOST_PARTS]]
+        told = [value_text(leaf, self.memory.memory.read(address + leaf.at, leaf.size),
+                           self.asked.name_of) for leaf in found[:MOST_PARTS]]
         if len(found) == 1 and not found[0].path:
             return told[0]
         said = [f"{leaf.path.lstrip('.')} = {value}" for leaf, value in zip(found, told)]
@@ -167,7 +185,8 @@ class Values:
         """A text in quotes, up to its zero."""
         found = bytearray()
         try:
-            while len(found) < min(most, LONGEST_TEXT) and (byte := self.read(address + len(found), 1)[0]):
+            while (len(found) < min(most, LONGEST_TEXT)
+                   and (byte := self.read(address + len(found), 1)[0])):
                 found.append(byte)
         except Unknown:
             if not found:

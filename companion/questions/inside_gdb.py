@@ -1,4 +1,5 @@
-"""Runs inside of gdb: answers what $ZELKUMA_ASKED asks of the program's names, as one line of JSON after its mark.
+"""Runs inside of gdb: answers what $ZELKUMA_ASKED asks of the program's names, as one line of JSON
+after its mark.
 
 It reads what the ELF file says, and nothing else: no process is started."""
 from __future__ import annotations
@@ -10,17 +11,24 @@ import re
 from typing import Any, Iterator
 
 gdb: Any = importlib.import_module("gdb")     # only there inside of gdb
-MOST_PARTS, DEEPEST = 4000, 12      # of a type
-ASSEMBLY = ".s", ".sx", ".asm"      # sources whose functions have no parameters for DWARF, whatever they take
-PLAIN = {gdb.TYPE_CODE_INT: "int", gdb.TYPE_CODE_CHAR: "int", gdb.TYPE_CODE_BOOL: "bool", gdb.TYPE_CODE_FLT: "float",
-         gdb.TYPE_CODE_PTR: "pointer", gdb.TYPE_CODE_REF: "pointer"}
-WHOLE = gdb.TYPE_CODE_STRUCT, gdb.TYPE_CODE_UNION, gdb.TYPE_CODE_ARRAY, gdb.TYPE_CODE_FLT      # agent bytecode has no values of these
-# Names that can be those of variables: no tag, part or type behind a point, an arrow or `$`; and literals, in which there are none.
-NAMES = re.compile(r"(?<!struct )(?<!union )(?<!enum )(?<![\w.>$])[A-Za-z_]\w*|\"(?:\\.|[^\"])*\"|'(?:\\.|[^'])*'")
+# Of a type
+MOST_PARTS = 4000
+DEEPEST = 12
+# Sources whose functions have no parameters for DWARF, whatever they take
+ASSEMBLY = ".s", ".sx", ".asm"
+PLAIN = {gdb.TYPE_CODE_INT: "int", gdb.TYPE_CODE_CHAR: "int", gdb.TYPE_CODE_BOOL: "bool",
+         gdb.TYPE_CODE_FLT: "float", gdb.TYPE_CODE_PTR: "pointer", gdb.TYPE_CODE_REF: "pointer"}
+# Agent bytecode has no values of these
+WHOLE = gdb.TYPE_CODE_STRUCT, gdb.TYPE_CODE_UNION, gdb.TYPE_CODE_ARRAY, gdb.TYPE_CODE_FLT
+# Names that can be those of variables: no tag, part or type behind a point, an arrow or `$`; and
+# literals, in which there are none.
+NAMES = re.compile(r"(?<!struct )(?<!union )(?<!enum "
+                   r")(?<![\w.>$])[A-Za-z_]\w*|\"(?:\\.|[^\"])*\"|'(?:\\.|[^'])*'")
 LETTER = re.compile(r"'(?:\\.|[^'\\])'")
 OPERATION = re.compile(r"^ +(\d+) +(\w+)(?: (-?\d+))?$", re.M)
 TYPE_NAME = re.compile(r"[\w \t*&:<>,()\[\]]+")        # gdb evaluates nothing of such a text
-BEFORE_NAME = re.compile(r"[^(\[]*(?:\(\*+)*")         # what of a type's text stands before a name, if one had this type
+# What of a type's text stands before a name, if one had this type
+BEFORE_NAME = re.compile(r"[^(\[]*(?:\(\*+)*")
 ADDRESS_OF = re.compile(r"&[\s(]*([A-Za-z_]\w*)(?![\w\s]*[.\[]|\s*->)")
 EMPTY = "zelkuma_"
 
@@ -38,20 +46,24 @@ class Types:
         if depth > DEEPEST or self.parts > MOST_PARTS:
             return said
         if plain.code in PLAIN:
-            said.update(kind=PLAIN[plain.code], signed=plain.code == gdb.TYPE_CODE_INT and is_signed(plain))
+            said.update(kind=PLAIN[plain.code],
+                        signed=plain.code == gdb.TYPE_CODE_INT and is_signed(plain))
         elif plain.code == gdb.TYPE_CODE_ENUM:
             names = {str(field.enumval): field.name for field in plain.fields()[:MOST_PARTS]}
-            said.update(kind="enum", names=names, signed=any(value.startswith("-") for value in names))
+            said.update(kind="enum", names=names,
+                        signed=any(value.startswith("-") for value in names))
         elif plain.code == gdb.TYPE_CODE_ARRAY:
             low, high = plain.range()
-            said.update(kind="array", count=max(0, high - low + 1), first=low, of=self.told(plain.target(), depth + 1))
+            said.update(kind="array", count=max(0, high - low + 1), first=low,
+                        of=self.told(plain.target(), depth + 1))
         elif plain.code in (gdb.TYPE_CODE_STRUCT, gdb.TYPE_CODE_UNION):
             said.update(kind="fields", fields=[self.field(field, depth) for field in plain.fields()
                                                if hasattr(field, "bitpos")])
         return said
 
     def field(self, field: Any, depth: int) -> dict[str, Any]:
-        said = {"name": field.name or "", "at": field.bitpos // 8, "type": self.told(field.type, depth + 1)}
+        said = {"name": field.name or "", "at": field.bitpos // 8,
+                "type": self.told(field.type, depth + 1)}
         if field.bitsize:
             said.update(bit=field.bitpos % 8, bits=field.bitsize)
         return said
@@ -102,7 +114,8 @@ def registers_in(place: str) -> str:
 
 
 def function(name: str) -> dict[str, Any]:
-    """Each place where a function begins, and of its own code the parameters and the result's type."""
+    """Each place where a function begins, and of its own code the parameters and the result's
+    type."""
     point = gdb.Breakpoint(name, internal=True)
     begins: list[dict[str, Any]] = []
     for location in point.locations:
@@ -118,7 +131,8 @@ def function(name: str) -> dict[str, Any]:
 
 
 def block_of(address: int, name: str) -> Any:
-    """The block of a function at an address, where what it begins with can be inlined; without one of this name the innermost."""
+    """The block of a function at an address, where what it begins with can be inlined; without one
+    of this name the innermost."""
     found = innermost = function_of(gdb.block_for_pc(address))
     while found is not None and found.function.name != name.rpartition("::")[2]:
         found = function_of(found.superblock)
@@ -130,20 +144,25 @@ def own_code(symbol: Any, address: int, name: str) -> dict[str, Any]:
     parameters = []
     for each in block_of(address, name) or ():
         if each.is_argument:
-            parameters.append({"name": each.name, "register": held.get(each.name, ""), "type": Types().told(each.type)})
-    return {"address": address, "inlined": False, "parameters": parameters, "result": Types().told(symbol.type.target())}
+            parameters.append({"name": each.name, "register": held.get(each.name, ""),
+                               "type": Types().told(each.type)})
+    return {"address": address, "inlined": False, "parameters": parameters,
+            "result": Types().told(symbol.type.target())}
 
 
 def line(spec: str, expressions: list[str]) -> dict[str, Any]:
-    """The addresses at which a line begins, where gdb would stop, and what each expression is there."""
+    """The addresses at which a line begins, where gdb would stop, and what each expression is
+    there."""
     point = gdb.Breakpoint(spec, internal=True)
     found = sorted(location.address for location in point.locations)
     point.delete()
-    return {"places": found, "expressions": [compiled(spec, found, each) for each in expressions] if found else []}
+    return {"places": found,
+            "expressions": [compiled(spec, found, each) for each in expressions] if found else []}
 
 
 def compiled(spec: str, places: list[int], expression: str) -> dict[str, Any]:
-    """The type of an expression, and its bytecode at each place. The value of what is `whole` isn't given, but its address."""
+    """The type of an expression, and its bytecode at each place. The value of what is `whole` isn't
+    given, but its address."""
     try:
         check_functions(places[0], expression)
         found = type_at(places[0], expression)
@@ -152,9 +171,11 @@ def compiled(spec: str, places: list[int], expression: str) -> dict[str, Any]:
             raise ValueError("it is a function, and not a value")
         is_whole = plain.code in WHOLE
         codes = dict(bytecode(spec, f"&({expression})" if is_whole else expression))
-        letters = plain.target().strip_typedefs() if plain.code in (gdb.TYPE_CODE_PTR, gdb.TYPE_CODE_ARRAY) else None
-        return {"type": Types().told(found), "whole": is_whole, "codes": {str(place): codes[place] for place in places},
-                "text": letters is not None and letters.code in (gdb.TYPE_CODE_INT, gdb.TYPE_CODE_CHAR) and letters.sizeof == 1}
+        letters = (plain.target().strip_typedefs()
+                   if plain.code in (gdb.TYPE_CODE_PTR, gdb.TYPE_CODE_ARRAY) else None)
+        return {"type": Types().told(found), "whole": is_whole,
+                "codes": {str(place): codes[place] for place in places}, "text": letters is not None
+                and letters.code in (gdb.TYPE_CODE_INT, gdb.TYPE_CODE_CHAR) and letters.sizeof == 1}
     except (gdb.error, RuntimeError, ValueError, KeyError) as error:
         return {"error": str(error)}
 
@@ -168,15 +189,20 @@ def check_functions(place: int, expression: str) -> None:
 
 
 def bytecode(spec: str, expression: str) -> Iterator[tuple[int, list[tuple[int, str, int]]]]:
-    """Of each place of a line its code: place in the code, operation and operand. No process is needed for it."""
-    plain = LETTER.sub(lambda letter: str(int(gdb.parse_and_eval(letter[0]))), expression)      # gdb compiles numbers alone
-    for said in gdb.execute(f"maint agent-eval -at {spec}, {plain}", to_string=True).split("Scope: ")[1:]:
+    """Of each place of a line its code: place in the code, operation and operand. No process is
+    needed for it."""
+    # Gdb compiles numbers alone
+    plain = LETTER.sub(lambda letter: str(int(gdb.parse_and_eval(letter[0]))), expression)
+    for said in gdb.execute(f"maint agent-eval -at {spec}, {plain}",
+                            to_string=True).split("Scope: ")[1:]:
         place, _, lines = said.partition("\n")
-        yield int(place, 16), [(int(at), name, int(operand or 0)) for at, name, operand in OPERATION.findall(lines)]
+        yield int(place, 16), [(int(at), name, int(operand or 0))
+                               for at, name, operand in OPERATION.findall(lines)]
 
 
 def type_at(place: int, expression: str) -> Any:
-    """The type of an expression at a place. There is no frame, so each variable stands there as an empty one of its type."""
+    """The type of an expression at a place. There is no frame, so each variable stands there as an
+    empty one of its type."""
     here = variables_at(place)
 
     def empty(name: Any) -> str:
@@ -186,14 +212,17 @@ def type_at(place: int, expression: str) -> Any:
         gdb.set_convenience_variable(EMPTY + name[0], gdb.Value(bytes(kind.sizeof), kind))
         return f"${EMPTY}{name[0]}"
 
-    said = gdb.execute(f"whatis {NAMES.sub(empty, expression)}", to_string=True).strip().partition(" = ")[2]
+    said = gdb.execute(f"whatis {NAMES.sub(empty, expression)}",
+                       to_string=True).strip().partition(" = ")[2]
     if not TYPE_NAME.fullmatch(said):           # an ELF file can call a type anything
         raise ValueError(f"its type is {said}")
-    return gdb.parse_and_eval(f"({pointer_to(said)}) 0").type.target()      # gdb tells a type as text alone
+    # Gdb tells a type as text alone
+    return gdb.parse_and_eval(f"({pointer_to(said)}) 0").type.target()
 
 
 def pointer_to(said: str) -> str:
-    """The text of a pointer to a type: C writes its star in the place of a name, as in `int (*)[4]`."""
+    """The text of a pointer to a type: C writes its star in the place of a name, as in `int
+    (*)[4]`."""
     at = BEFORE_NAME.match(said).end()          # type: ignore[union-attr]
     return said[:at] + ("(*)" if said[at:at + 1] in ("[", "(") else "*") + said[at:]
 
@@ -213,7 +242,8 @@ def variables_at(place: int) -> dict[str, Any]:
 def answer(asked: dict[str, Any]) -> dict[str, Any]:
     if "variable" in asked:
         return variable(asked["variable"])
-    return line(asked["line"], asked["expressions"]) if "line" in asked else function(asked["function"])
+    return (line(asked["line"], asked["expressions"]) if "line" in asked
+            else function(asked["function"]))
 
 
 def main() -> None:

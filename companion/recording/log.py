@@ -1,4 +1,5 @@
-"""What the log file itself says beside the rows: settings, intervals, Ends and Edges, according to docs/FORMAT.md."""
+"""What the log file itself says beside the rows: settings, intervals, Ends and Edges, according to
+docs/FORMAT.md."""
 from __future__ import annotations
 
 import re
@@ -14,21 +15,38 @@ from ..call.files import check_regular
 from ..call.options import whole
 from .head import VERSION_1, Head, head_of
 
-HEADER, FIRST_LOAD, SC_OK, SC_FAILED, EDGE, END = 1, 2, 3, 4, 5, 6
+HEADER = 1
+FIRST_LOAD = 2
+SC_OK = 3
+SC_FAILED = 4
+EDGE = 5
+END = 6
 SIZES = {HEADER: 146, FIRST_LOAD: 10, SC_OK: 2, SC_FAILED: 2, EDGE: 19, END: 15}
 REASONS = {1: "length", 2: "call", 3: "exit", 4: "group", 5: "stopped", 6: "guard", 7: "limit",
-           17: "Illegal", 18: "Breakpoint", 19: "FetchOutside", 20: "TargetMisaligned", 21: "LoadOutside",
-           22: "LoadMisaligned", 23: "StoreOutside", 24: "StoreMisaligned", 25: "StoreReadOnly"}
-CALL, A1, A7 = "call", 11, 17                   # a call's reason and registers
-READ_CALL, WRITE_CALL, FAILED = 63, 64, 1 << 31  # calls, and the least result of one that failed
+           17: "Illegal", 18: "Breakpoint", 19: "FetchOutside", 20: "TargetMisaligned",
+           21: "LoadOutside", 22: "LoadMisaligned", 23: "StoreOutside",
+           24: "StoreMisaligned", 25: "StoreReadOnly"}
+# A call's reason and registers
+CALL = "call"
+A1 = 11
+A7 = 17
+# Calls, and the least result of one that failed
+READ_CALL = 63
+WRITE_CALL = 64
+FAILED = 1 << 31
 LONGEST_CALL = 4096                             # bytes that a call moves at most
 MOST_HARTS = 16                                 # of a recording, by docs/FORMAT.md
 NO_END = ""                                     # the reason of an interval without an End
-DIGEST, SEAL = 32, 48           # bytes of a digest, and of what ends a block
+# Bytes of a digest, and of what ends a block
+DIGEST = 32
+SEAL = 48
 LENGTH_BACK = 36                # bytes from a block's end back to the length of its records
-# Most records are FirstLoads and Edges: so many that follow each other are passed at once. The sizes are those of SIZES.
-RUNS = re.compile(rb"(?:\x02.{9}){1,1000}|(?:\x05.{18}){1,1000}|\x01.{145}|\x06.{14}|\x03.|\x04.", re.S)
-TO_ENDS = re.compile(rb"(?:\x02.{9}|\x05.{18}|\x01.{145}|[\x03\x04].){1,1000}|\x06.{14}", re.S)    # an End alone, or others
+# Most records are FirstLoads and Edges: so many that follow each other are passed at once. The
+# sizes are those of SIZES.
+RUNS = re.compile(rb"(?:\x02.{9}){1,1000}|(?:\x05.{18}){1,1000}|\x01.{145}|\x06.{14}|\x03.|\x04.",
+                  re.S)
+# An End alone, or others
+TO_ENDS = re.compile(rb"(?:\x02.{9}|\x05.{18}|\x01.{145}|[\x03\x04].){1,1000}|\x06.{14}", re.S)
 FIRST_FAULT = 17                                # the number of the first reason that is a fault
 
 
@@ -63,13 +81,14 @@ def asked_row(row: str, option: str = "--row") -> At:
     hart, colon, count = row.partition(":")
     if not colon:
         raise CompanionError(f"{option} has to be HART:COUNT, not {row!r}", REFUSED)
-    return At(whole(hart, 0, 255, f"the hart of {option}"), whole(count, 0, 1 << 41, f"the count of {option}"))
+    return At(whole(hart, 0, 255, f"the hart of {option}"),
+              whole(count, 0, 1 << 41, f"the count of {option}"))
 
 
 @dataclass(frozen=True)
 class SystemCall:
-    """A system call of a hart: its row's count, its kind, the address that it names, the bytes that it moved if it is a read
-    or a write, and the address of its code."""
+    """A system call of a hart: its row's count, its kind, the address that it names, the bytes that
+    it moved if it is a read or a write, and the address of its code."""
     hart: int
     count: int
     kind: int
@@ -79,7 +98,8 @@ class SystemCall:
 
 
 class Edges(NamedTuple):
-    """Columns, one entry for each Edge: the access of a hart at a count comes after that of its source."""
+    """Columns, one entry for each Edge: the access of a hart at a count comes after that of its
+    source."""
     counts: array[int]
     source_counts: array[int]
     harts: array[int]
@@ -99,9 +119,14 @@ class Log:
     unread     how many bytes of that file come before"""
 
     def __init__(self, name: str, data: bytes, shown: str = "", unread: int = 0) -> None:
-        """`data` has to be what `check` takes: records are read as they stand. CompanionError if they end too early."""
-        self.name, self.bytes, self.shown, self.unread = name, len(data), shown or name, unread
-        self.version = self.harts = self.length = self.limit = self.size = self.memory = self.dropped = 0
+        """`data` has to be what `check` takes: records are read as they stand. CompanionError if
+        they end too early."""
+        self.name = name
+        self.bytes = len(data)
+        self.shown = shown or name
+        self.unread = unread
+        self.version = self.harts = self.length = self.limit = 0
+        self.size = self.memory = self.dropped = 0
         self.intervals: list[Interval] = []
         self.called: list[Interval] = []        # those that ended by a system call, in its order
         self.ends: dict[int, End] = {}
@@ -126,7 +151,8 @@ class Log:
     def read_records(self, records: bytes) -> None:
         opened: dict[int, Interval] = {}
         for record in runs_of(records):
-            tag, hart = record[0], record[1]
+            tag = record[0]
+            hart = record[1]
             self.records += len(record) // SIZES[tag]
             if tag == HEADER:
                 opened[hart] = self.header(record)
@@ -138,7 +164,9 @@ class Log:
                 if interval is None:            # the Header of a hart's first End can be lost
                     self.late.add(hart)
                 else:
-                    interval.end, interval.reason, interval.value = end.count, end.reason, end.value
+                    interval.end = end.count
+                    interval.reason = end.reason
+                    interval.value = end.value
                     if interval.reason == CALL:
                         self.called.append(interval)
 
@@ -152,7 +180,8 @@ class Log:
     def edges(self) -> Edges:
         """All Edges of the log."""
         found = Edges(array("Q"), array("Q"), array("B"), array("B"))
-        for hart, count, source, source_count in struct.iter_unpack("<xBQBQ", b"".join(self.edge_runs)):
+        for hart, count, source, source_count in struct.iter_unpack("<xBQBQ",
+                                                                    b"".join(self.edge_runs)):
             for column, value in zip(found, (count, source_count, hart, source)):
                 column.append(value)
         return found
@@ -173,20 +202,23 @@ class Log:
         return {hart: found[0] for hart, found in self.by_hart().items()}
 
     def system_calls(self) -> Iterator[SystemCall]:
-        """Those after which a hart continued, in their order. What they were asked is in the registers that the next Header has."""
-        following = {(interval.hart, interval.number): interval.registers for interval in self.intervals}
+        """Those after which a hart continued, in their order. What they were asked is in the
+        registers that the next Header has."""
+        following = {(interval.hart, interval.number): interval.registers
+                     for interval in self.intervals}
         for interval in self.called:
             registers = following.get((interval.hart, interval.number + 1))
             if registers and interval.value < FAILED:
-                yield SystemCall(interval.hart, interval.end - 1, registers[A7], registers[A1], min(interval.value, LONGEST_CALL),
-                                 registers[0] - 4)
+                yield SystemCall(interval.hart, interval.end - 1, registers[A7], registers[A1],
+                                 min(interval.value, LONGEST_CALL), registers[0] - 4)
 
 
 def records_in(data: bytes, head: Head) -> bytes:
     """The records of a file. IndexError if it isn't what `check` takes."""
     if head.version == VERSION_1:
         return data[head.records_at:-DIGEST]
-    pieces, end = [], len(data)
+    pieces = []
+    end = len(data)
     while end > head.records_at:                # sealed blocks, from the last one back
         size, = struct.unpack_from("<I", data, end - LENGTH_BACK)
         pieces.append(data[end - SEAL - size:end - SEAL])
@@ -207,7 +239,8 @@ def runs_of(records: bytes) -> Iterator[bytes]:
 
 
 def no_row(name: str, at: At) -> CompanionError:
-    """What to raise of a row that a log doesn't hold: with the counts that it holds of that hart, as `list` tells them."""
+    """What to raise of a row that a log doesn't hold: with the counts that it holds of that hart,
+    as `list` tells them."""
     first: dict[int, int] = {}
     last: dict[int, int] = {}
     with program.Output("list", name) as lines:
@@ -215,9 +248,10 @@ def no_row(name: str, at: At) -> CompanionError:
             hart, _, start, end = map(int, line.split()[:4])
             first.setdefault(hart, start)
             last[hart] = end
-    told = (f"of hart {at.hart} it holds counts from {first[at.hart]} to {last[at.hart]}" if at.hart in first
-            else f"its harts are {', '.join(map(str, sorted(first)))}")
-    return CompanionError(f"the log holds no row {at.hart}:{at.count}: {told}, as `zelkuma list` tells", NO_INTERVAL)
+    told = (f"of hart {at.hart} it holds counts from {first[at.hart]} to {last[at.hart]}"
+            if at.hart in first else f"its harts are {', '.join(map(str, sorted(first)))}")
+    return CompanionError(f"the log holds no row {at.hart}:{at.count}: {told}, "
+                          "as `zelkuma list` tells", NO_INTERVAL)
 
 
 def changed(name: str) -> CompanionError:
@@ -234,12 +268,14 @@ def check(name: str) -> None:
         if error.status == BAD_LOG:
             with open(name, "rb") as file:
                 if file.read(4) == b"\x7fELF":
-                    raise CompanionError(f"log: {name} is an ELF file, and the log is named before it: LOG ELF", BAD_LOG)
+                    raise CompanionError(f"log: {name} is an ELF file, "
+                                         "and the log is named before it: LOG ELF", BAD_LOG)
         raise
 
 
 def load_ends(name: str) -> dict[int, End]:
-    """The last End of each hart of a log that the program has made: so `ends` of the log, for a tenth of the time."""
+    """The last End of each hart of a log that the program has made: so `ends` of the log, for a
+    tenth of the time."""
     with open(name, "rb") as file:
         data = file.read()
     found = (piece[0] for piece in TO_ENDS.finditer(records_in(data, head_of(data))))

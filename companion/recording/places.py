@@ -19,11 +19,15 @@ from .sources import Sources
 
 PACKAGE = "binutils"    # of Debian, with the last of these: it reads lines of all machines
 TOOLS = tuple(f"{prefix}addr2line" for prefix in (
-    "riscv64-unknown-elf-", "riscv32-unknown-elf-", "riscv-none-elf-", "riscv32-esp-elf-", "riscv64-linux-gnu-", "llvm-", ""))
+    "riscv64-unknown-elf-", "riscv32-unknown-elf-", "riscv-none-elf-", "riscv32-esp-elf-",
+    "riscv64-linux-gnu-", "llvm-", ""))
 AT_ONCE = 100               # so many questions fit into a pipe, whatever the answers' length
-# The seconds that a tool may take altogether: so many, and more for each address, which is a hundred times what it needs.
-PATIENCE, PATIENCE_EACH = 15.0, 0.005
-MOST_FRAMES, LARGEST_ANSWER = 64, 4 << 20
+# The seconds that a tool may take altogether: so many, and more for each address, which is a
+# hundred times what it needs.
+PATIENCE = 15.0
+PATIENCE_EACH = 0.005
+MOST_FRAMES = 64
+LARGEST_ANSWER = 4 << 20
 MOST_MEMORY = 640 << 20     # of a tool, whatever an ELF file says
 PLACE = re.compile(r"(.*):(\d+|\?)(?: \(.*\))?", re.S)
 LONGEST_LINE_NUMBER = 9     # digits
@@ -31,7 +35,8 @@ CALLED_FROM = "  <  "       # stands between a place and the one that it was cal
 
 
 class Frame(NamedTuple):
-    """A place of code: the function, and the file's name, the line and the whole path, or nothing and 0."""
+    """A place of code: the function, and the file's name, the line and the whole path, or nothing
+    and 0."""
     function: str
     file: str
     line: int
@@ -43,19 +48,24 @@ class Frame(NamedTuple):
 
 
 class Tool:
-    """One addr2line. The first question starts it; `name` is empty if there is none, or it has failed.
+    """One addr2line. The first question starts it; `name` is empty if there is none, or it has
+    failed.
 
-    An answer is the echo of its address and two lines for each frame. The names in it are the file's, and can hold
-    anything, ends of lines as well. So a mark is asked before each address: an address that each process draws for itself,
-    which no file can know. What stands between two of its echoes is the answer to one address."""
+    An answer is the echo of its address and two lines for each frame. The names in it are the
+    file's, and can hold anything, ends of lines as well. So a mark is asked before each address: an
+    address that each process draws for itself, which no file can know. What stands between two of
+    its echoes is the answer to one address."""
 
     def __init__(self, elf: Elf, tools: Iterable[str]) -> None:
-        self.elf, self.tools = elf, [name for name in tools if shutil.which(name)]
+        self.elf = elf
+        self.tools = [name for name in tools if shutil.which(name)]
         self.process: Optional[subprocess.Popen[bytes]] = None
         self.name = self.tools[0] if self.tools else ""
-        self.mark = b"%x\n" % (1 << 31 | int.from_bytes(os.urandom(4), "little") >> 1)     # no memory is there
+        # No memory is there
+        self.mark = b"%x\n" % (1 << 31 | int.from_bytes(os.urandom(4), "little") >> 1)
         self.echo = re.compile(rb"^0x0*%s\r?\n" % self.mark[:-1], re.M)
-        self.left, self.unknown = PATIENCE, b""         # seconds; what is said of the mark itself
+        self.left = PATIENCE  # seconds
+        self.unknown = b""  # what is said of the mark itself
         self.failed = ""                        # why it was ended
 
     def ask(self, addresses: Sequence[int]) -> dict[int, list[Frame]]:
@@ -70,7 +80,8 @@ class Tool:
         except (OSError, ValueError) as error:
             self.fail(error)
             return {}
-        return {address: self.frames(address, answer[len(self.unknown):]) for address, answer in zip(addresses, answers)}
+        return {address: self.frames(address, answer[len(self.unknown):])
+                for address, answer in zip(addresses, answers)}
 
     def start(self) -> None:
         """Starts the first tool that answers."""
@@ -86,10 +97,12 @@ class Tool:
                 self.fail(error)
 
     def exchange(self, process: subprocess.Popen[bytes], asked: bytes, marks: int) -> list[bytes]:
-        """What the tool says between the echoes of so many marks, the last of which ends the question."""
+        """What the tool says between the echoes of so many marks, the last of which ends the
+        question."""
         assert process.stdin and process.stdout
         process.stdin.write(asked)
-        said, until = b"", time.monotonic() + self.left
+        said = b""
+        until = time.monotonic() + self.left
         while True:
             if said.count(self.mark) >= marks:
                 parts = self.echo.split(said)
@@ -113,7 +126,8 @@ class Tool:
                 return []
             path, line = told.groups()
             if function != "??" or path != "??":
-                # $x and the like are marks for disassemblers, which LLVM's tool takes for functions.
+                # $x and the like are marks for disassemblers, which LLVM's tool takes for
+                # functions.
                 name = self.elf.function_name(address) if function[:1] == "$" else clean(function)
                 number = int(line) if line.isdigit() and len(line) <= LONGEST_LINE_NUMBER else 0
                 path = "" if path == "??" else clean(path)
@@ -157,7 +171,8 @@ class Places:
 
     def __init__(self, elf: Elf, tools: Iterable[str] = TOOLS, folders: Sequence[str] = ()) -> None:
         """`folders` are those of sources, beside the ELF file's and the current one."""
-        self.elf, self.sources = elf, Sources(elf.name, folders)
+        self.elf = elf
+        self.sources = Sources(elf.name, folders)
         self.kept: dict[int, list[Frame]] = {}
         self.addr2line = Tool(elf, tools)
 
@@ -169,7 +184,8 @@ class Places:
     def trouble(self) -> list[str]:
         """What to say if the tool has failed, or a source isn't read."""
         failed = self.addr2line.failed
-        told = [f"{failed}; places of which it said nothing have the names of symbols"] if failed else []
+        told = ([f"{failed}; places of which it said nothing have the names of symbols"] if failed
+                else [])
         return told + self.sources.trouble()
 
     def close(self) -> None:
@@ -209,7 +225,8 @@ class Places:
 
     def chain(self, pcs: Iterable[int], most: int) -> str:
         """The places of a row and of the calls over it, innermost first: so many at most."""
-        frames = [frame for pc in pcs for frame in self.frames(pc) or [Frame(f"{pc:08x}", "", 0, "")]]
+        frames = [frame for pc in pcs
+                  for frame in self.frames(pc) or [Frame(f"{pc:08x}", "", 0, "")]]
         return CALLED_FROM.join(frame.text() for frame in frames[:most])
 
     def line(self, pc: int) -> str:

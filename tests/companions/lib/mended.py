@@ -1,4 +1,5 @@
-"""Programs with a known race, and what mends each: changes of its source, built as the examples are.
+"""Programs with a known race, and what mends each: changes of its source, built as the examples
+are.
 
 In the folder mended/ NAME.mended.diff is a true fix, and NAME.half.diff one by which some orders
 still end badly."""
@@ -91,7 +92,8 @@ def built(name, change="", level="-O2"):
     elf = os.path.join(folder, name + ".elf")
     if not os.path.exists(elf):
         source = common.written(os.path.join(folder, name + ".c"), source_of(name, change))
-        script, start, machine = (os.path.join(LIB, name) for name in ("program.ld", "start.S", "machine.c"))
+        script, start, machine = (os.path.join(LIB, name)
+                                  for name in ("program.ld", "start.S", "machine.c"))
         subprocess.run([COMPILER, *FLAGS, level, "-I", LIB, "-I", common.CRASHES, "-T", script,
                         "-o", elf, start, machine, source], check=True)
     return elf
@@ -99,7 +101,8 @@ def built(name, change="", level="-O2"):
 
 def recorded(name, level="-O2"):
     """LOG, ELF and BOOK of the program as it is."""
-    program, elf = program_of(name), built(name, level=level)
+    program = program_of(name)
+    elf = built(name, level=level)
     log = common.path(f"mended_{name}{level}.log")
     if not os.path.exists(log):
         common.record(f"mended_{name}{level}", elf, *program.options, schedule=program.schedule)

@@ -74,7 +74,8 @@ def last_rows(log, elf, book):
 class RecheckTest(case.Case):
     def order_of(self, name, *options, level="-O2"):
         """The order file of a recorded program, as `shrink` saves it."""
-        file, short = common.path(f"{name}{level}.order"), common.path(f"{name}{level}.short")
+        file = common.path(f"{name}{level}.order")
+        short = common.path(f"{name}{level}.short")
         if not os.path.exists(file):
             self.says("shrink", *mended.recorded(name, level), short, short + ".book",
                       "--order", file, *options)
@@ -150,8 +151,8 @@ class RecheckTest(case.Case):
 
     @needs_compiler
     def test_a_load_that_is_done_before_the_call(self):
-        """At -O2 GCC loads in `look` what `length` gets, so the same fault is in one of two lines, of
-        which one calls the other's function."""
+        """At -O2 GCC loads in `look` what `length` gets, so the same fault is in one of two lines,
+        of which one calls the other's function."""
         self.needs_addr2line()
         same = "STILL CRASHES, by the order itself"
         apart = same + "; one of the two lines calls the other's function"
@@ -258,7 +259,8 @@ class RecheckTest(case.Case):
         elf = self.elf("counter")
         status, said, _ = common.companion("recheck", order, elf, "--tries", "1")
         self.assertEqual(status, 24)
-        self.assertRegex(said, r"in main: it has no object missing; hart 0 waits in .* alone changes\n"
+        self.assertRegex(said,
+                         r"in main: it has no object missing; hart 0 waits in .* alone changes\n"
                          r"0 of 1 switch is as it was; by this order: it ends well\n"
                          r"1 of 1 order near it ends well; how many of ")
         order = hand(HAND.replace("ready in main", "ready in main #9"), "ninth.order")
