@@ -113,9 +113,9 @@ fn harts_of(options: &RecordOptions) -> Option<u8>
     }
 }
 
-// The same of words: none if they ask for anything else.
+// The same of words: none if they ask for anything else, or are refused. The error is that memory ran out.
 fn harts_in(alloc: Global, words: &[String]) -> Result<Option<u8>, WordsError>
-    ensures some { IfOk result (λ harts. OnSome harts (AskForTurns (command_in words.now))) }
+    ensures some { MatchResult result (λ harts. OnSome harts (AskForTurns (command_in words.now))) (λ error. error ≡ WordsError.OutOfMemory) }
     ensures all { IfOk result (λ harts. AskForTurns (command_in words.now) → harts ≡ harts_by (command_in words.now)) }
 {
     match read_words(alloc, words) {
