@@ -10,6 +10,7 @@ use Rattle.system_calls.specs.declared.effect.Plan.TheVariants as plans
 use Rattle.run_model.specs.Machine.{answer, call_of}
 use Rattle.run_model.specs.declared.hart.Hart.{Hart}
 use Rattle.run_model.specs.declared.turn_end.TurnEnd.{TurnEnd}
+use Rattle.run_laws.proofs.Converse.{legal_front}
 use Rattle.run_model.specs.declared.turn_end.TurnEnd.TheVariants.{GoesOn, NewInterval, HartOver, RunOver}
 use Rattle.log_commands.specs.declared.answer.RunEnd.TheVariants as ends
 
@@ -191,12 +192,6 @@ crashed_or c i run (k ∷ ks) orderly legal calm = by (faulted_or (ask_at c i (r
         let none : ks ≡ [] = last_turn c i (turn c i run k) ks (dead_turn c i run k f.0 f.1 own f.2) rest in
         inr (record { before = []; hart = k; kind = f.0; value = f.1; turns_are = ap (λ (xs : List ℕ). k ∷ xs) none; want = f.2 })
     by (inr none) go = add (go none)
-
-legal_front : (c : RawSettings) (i : Program) (run : Run) (front back : List ℕ) → legal_from c i run (front ++ back) ≡ true → legal_from c i run front ≡ true
-legal_front c i run [] back e = refl
-legal_front c i run (k ∷ front) back e =
-    let l = later_legal (is_live c run k) (legal_from c i (turn c i run k) (front ++ back)) e in
-    ap (λ (b : Bool). elim b as (λ x. Bool) [ true ↦ legal_from c i (turn c i run k) front | false ↦ false ]) l.0 ∙ legal_front c i (turn c i run k) front back l.1
 
 -- ---- the whole run
 

@@ -7,6 +7,7 @@ use Rattle.joint_replay.specs.declared.kinds.Next.TheVariants as next
 use Rattle.joint_replay.specs.Calls.{bare, state_at, IsReached}
 use Rattle.joint_replay.specs.Memory.{word_in}
 use Rattle.joint_replay.specs.Lanes as lanes
+use Rattle.back_step.proofs.Leading.{next_is, step_there}
 use Rattle.back_step.specs.declared.entry.Entry.{Entry}
 use Rattle.step_debugger.proofs.Stepping.{lowest_is_ready}
 use Rattle.step_debugger.specs.Answers.{Answer, begin as session_begin}
@@ -124,15 +125,6 @@ walk-added w v (k ∷ order) h x e f = by (ready_step w.now k) (λ y g. walk-add
     by None rest g = absurd cc
     by (Some y) rest g = rest y g
 
-step-there : (j : Joining) (h : ℕ) (x : Item × Joining) → readiness j h ≡ is.Ready → next_step j h ≡ Some (Ok x) → ready_step j h ≡ Some x
-step-there j h x ready there =
-    ap (λ (r : Readiness). elim r as (λ y. Option (Item × Joining)) [
-      | is.Ready ↦ elim (next_step j h) as (λ y. Option (Item × Joining)) [ None ↦ None | Some r ↦ elim r as (λ y. Option (Item × Joining)) [ Err e ↦ None | Ok x ↦ Some x ] ]
-      | is.Waits s ic ↦ None
-      | is.Done ↦ None
-    ]) ready
-    ∙ ap (λ (o : Option (Result (Item × Joining) ReplayError)). elim o as (λ y. Option (Item × Joining)) [ None ↦ None | Some r ↦ elim r as (λ y. Option (Item × Joining)) [ Err e ↦ None | Ok x ↦ Some x ] ]) there
-
 -- a step keeps the program and the records
 abbrev Same : Joining → Option (Result (Item × Joining) ReplayError) → Type 0
 Same j None = Unit {0}
@@ -158,20 +150,6 @@ by-refused j h None = by-lane j h (slice_get j.lanes h)
 step-same : (j : Joining) (h : ℕ) → Same j (next_step j h)
 step-same j h = by-refused j h j.refused
 
-next-there : (j : Joining) (h : ℕ) (x : Item × Joining) → ready_step j h ≡ Some x → next_step j h ≡ Some (Ok x)
-next-there j h x e = by (readiness j h) (next_step j h) e
-  where
-    by : (r : Readiness) (o : Option (Result (Item × Joining) ReplayError)) → elim r as (λ y. Option (Item × Joining)) [
-      | is.Ready ↦ elim o as (λ y. Option (Item × Joining)) [ None ↦ None | Some z ↦ elim z as (λ y. Option (Item × Joining)) [ Err e ↦ None | Ok y ↦ Some y ] ]
-      | is.Waits s ic ↦ None
-      | is.Done ↦ None
-    ] ≡ Some x → o ≡ Some (Ok x)
-    by is.Ready None e = absurd cc
-    by is.Ready (Some (Err g)) e = absurd cc
-    by is.Ready (Some (Ok y)) e = let same : y ≡ x = cc in ap (λ (z : Item × Joining). Some (Ok z)) same
-    by (is.Waits s ic) o e = absurd cc
-    by is.Done o e = absurd cc
-
 -- walks of an order's parts
 walk-parts : (w v : Walk) (one two : List ℕ) → walk_on w (one ++ two) ≡ Some v → (u : Walk) × (walk_on w one ≡ Some u) × (walk_on u two ≡ Some v)
 walk-parts w v [] two e = (w, refl, e)
@@ -192,7 +170,7 @@ walk-same w v (h ∷ order) e = by (ready_step w.now h) refl (λ x f. walk-same 
         → (elim o as (λ y. Option Walk) [ None ↦ None | Some x ↦ walk_on (longer w h x) order ]) ≡ Some v → (v.now.program ≡ w.now.program) × (v.now.records ≡ w.now.records)
     by None f rest e = absurd cc
     by (Some x) f rest e =
-        let here : Same w.now (Some (Ok x)) = subst (λ (o : Option (Result (Item × Joining) ReplayError)). Same w.now o) (next-there w.now h x f) (step-same w.now h) in
+        let here : Same w.now (Some (Ok x)) = subst (λ (o : Option (Result (Item × Joining) ReplayError)). Same w.now o) (next_is w.now h x f) (step-same w.now h) in
         let more = rest x e in
         (more.0 ∙ here.0, more.1 ∙ here.1)
 
@@ -222,7 +200,7 @@ led-lasts goes steps r records log = record { steps = more; some = λ t p none. 
           record {
             start = p.start;
             walk = longer p.walk h s.0;
-            led = subst (λ hs. walk_on (begun t.start) hs ≡ Some (longer p.walk h s.0)) harts (walk-added (begun t.start) p.walk (harts_of t.entries) h s.0 p.led (step-there p.walk.now h s.0 here s.1));
+            led = subst (λ hs. walk_on (begun t.start) hs ≡ Some (longer p.walk h s.0)) harts (walk-added (begun t.start) p.walk (harts_of t.entries) h s.0 p.led (step_there p.walk.now h s.0 here s.1));
             now = refl;
           },
         )

@@ -4,10 +4,13 @@
 //! sinks.
 #![tactic(auto)]
 
+mod command_files;
 mod commands;
 mod laws;
 mod program;
 mod recorder;
+mod recordings;
+mod replies;
 
 pub use laws::{
     answers_are_determined, audits_agree, books_are_followed, crashes_are_shown, each_can_be_done,

@@ -30,3 +30,6 @@ line_names = refl
 pub line_replayed : replayed_names 0 a_line_lost ≡ (0, 2) ∷ (0, 3) ∷ (1, 2) ∷ []
 unfolding serve at_places leads any_below before edge greatest_first edges_into number_bytes
 line_replayed = refl
+
+-- what a relay shows
+pub ruleset relay = (relay_names, relay_races, late_names, late_races)

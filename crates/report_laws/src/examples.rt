@@ -6,7 +6,7 @@ ghost use Rattle.report_laws.specs.Examples.{recorded_names, replayed_names, rec
 
 /// A relay by plain loads and stores, as the run did it: no chain orders any of its conflicts. Of a log
 /// without the first intervals of such a relay those points are left that its rows have.
-#[tactic(auto, using(crate::proofs::Worked::relay_names, crate::proofs::Worked::relay_races, crate::proofs::Worked::late_names, crate::proofs::Worked::late_races))]
+#[tactic(auto, using(crate::proofs::Worked::relay))]
 pub fn a_recorded_relay_has_its_races()
     ensures names { recorded_names 0 a_relay ≡ (0, 4) ∷ (1, 3) ∷ (1, 4) ∷ (2, 4) ∷ (2, 5) ∷ [] }
     ensures races { recorded_races 0 a_relay ≡ (0, 4, 1, 3, 0x20000) ∷ (0, 4, 2, 5, 0x20000) ∷ (1, 4, 2, 4, 0x20004) ∷ [] }

@@ -1,7 +1,7 @@
 use Rattle.bugnet.proofs.Common.{◌≡◌, ◌∙◌, List, subst, sym, Err, seen, LoadsUpTo, CallsTo, noted_after, loads_of, Answer, Role, passed-on, own-loads, refusal_in, line_roles, AnswersLine, needed_roles, None}
 use Rattle.bugnet.proofs.LineAnswers.{stops-line, gives-line, cause-line, needed-same, demo-loads, kind-fits, kind-printed}
 use Rattle.bugnet.proofs.LineCalls.{words-pass}
-use Rattle.bugnet.proofs.program.answer_loaded.Goals as goal
+use Rattle.bugnet.proofs.replies.answer_loaded.Goals as goal
 
 pub returns-in_err-inputs : goal.returns-in_err-inputs
 returns-in_err-inputs g c = λ o.

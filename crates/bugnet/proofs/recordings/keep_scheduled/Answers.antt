@@ -1,6 +1,6 @@
 use Rattle.bugnet.proofs.Common.{None, subst, Scheduling, Start, IsRecordingBy}
 use Rattle.bugnet.proofs.RecordLoads.{recorded-as}
-use Rattle.bugnet.proofs.program.keep_scheduled.Goals as goal
+use Rattle.bugnet.proofs.recordings.keep_scheduled.Goals as goal
 
 pub returns : goal.returns
 returns g c =

@@ -1,6 +1,6 @@
 use Rattle.bugnet.proofs.Common.{between, world, passed-on, RepliesTo}
 use Rattle.bugnet.proofs.Replied.{leaves-other, line-refused, line-acted}
-use Rattle.bugnet.proofs.program.reply.Goals as goal
+use Rattle.bugnet.proofs.replies.reply.Goals as goal
 
 pub returns-in_err-answer : goal.returns-in_err-answer
 returns-in_err-answer g c = λ o.

@@ -2,7 +2,7 @@ use Rattle.bugnet.proofs.Common.{Option, subst, sym, Files, RecordLine, seen_rec
 use Rattle.bugnet.proofs.Leaves.{call-leaves}
 use Rattle.bugnet.proofs.RecordLoads.{record-bytes}
 use Rattle.bugnet.proofs.Replied.{line-refused, line-acted}
-use Rattle.bugnet.proofs.program.keep_recording.Goals as goal
+use Rattle.bugnet.proofs.recordings.keep_recording.Goals as goal
 
 pub returns-in_err-answer : goal.returns-in_err-answer
 returns-in_err-answer g c = λ o makes.

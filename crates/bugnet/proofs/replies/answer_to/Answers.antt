@@ -1,7 +1,7 @@
 use Rattle.bugnet.proofs.Common.{◌≡◌, sym, refl, Err, seen, Answer, none-fell, refusal_in, line_roles, needed_roles, Some}
 use Rattle.bugnet.proofs.LineAnswers.{words-line, words-cause, demo-words}
 use Rattle.bugnet.proofs.LineCalls.{words-first}
-use Rattle.bugnet.proofs.program.answer_to.Goals as goal
+use Rattle.bugnet.proofs.replies.answer_to.Goals as goal
 
 pub returns-in-Some : goal.returns-in-Some
 returns-in-Some g c = λ o.

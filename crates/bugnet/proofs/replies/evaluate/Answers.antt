@@ -1,4 +1,4 @@
-use Rattle.bugnet.proofs.program.evaluate.Goals as goal
+use Rattle.bugnet.proofs.replies.evaluate.Goals as goal
 
 pub returns-in-Replay-clause-answers : goal.returns-in-Replay-clause-answers
 returns-in-Replay-clause-answers c = rw c.in-Replay.is (rw (c.deref.ensures.value, c.deref-in-Replay.ensures.value) at c.evaluate.ensures)
