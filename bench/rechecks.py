@@ -1,7 +1,7 @@
 #!/usr/bin/env python3
 """Rechecks builds of which it is known if they are mended, and prints what is said of them.
 
-bench/rechecks.py [--tries N] [PROGRAM..]   without PROGRAM those of tests/companions/lib/mended
+bench/rechecks.py [--tries N] [PROGRAM..]   without PROGRAM those of tests/crashes/mended
 
 Each program has nine builds: the recorded one, the same with other line numbers, at four other
 levels, with half a fix, and with a true fix at two levels. A cell says how a bad end was found: by

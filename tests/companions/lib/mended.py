@@ -1,7 +1,7 @@
 """Programs with a known race, and what mends each: changes of its source, built as the examples
 are.
 
-In the folder mended/ NAME.mended.diff is a true fix, and NAME.half.diff one by which some orders
+In tests/crashes/mended NAME.mended.diff is a true fix, and NAME.half.diff one by which some orders
 still end badly."""
 import os
 import re
@@ -16,8 +16,7 @@ FLAGS = ("-march=rv32ima", "-mabi=ilp32", "-mstrict-align", "-g", "-ffreestandin
          "-fno-tree-loop-distribute-patterns", "-nostdlib", "-static", "-z", "max-page-size=4096",
          "-Wl,--build-id=none")
 LIB = os.path.join(common.EXAMPLES, "lib")
-HERE = os.path.dirname(os.path.abspath(__file__))
-DIFFS = os.path.join(HERE, "mended")
+DIFFS = os.path.join(common.CRASHES, "mended")
 MOVED = "moved"             # a change that gives each line another number
 
 
