@@ -1,8 +1,8 @@
 #!/usr/bin/env bash
 # Times record and replay of a long run that ends in a fault, beside QEMU's own record/replay (qemu-system-riscv32, icount) of
 # the same code on bare metal. QEMU logs inputs alone, and replays from the start; ours logs first loads, and replays what the
-# log still holds. Printed are seconds by the clock, the least of RUNS (3): of recording, from the log to the last
-# instruction before the fault, and of one step back from there.
+# log still holds. Printed are seconds by the clock and of the processor, each the least of RUNS (3): of recording, from the
+# log to the last instruction before the fault, and of one step back from there. Other work changes those of the clock most.
 #
 # bench/peer.sh [ROUNDS [RUNS]]: 463 rounds of examples/sort.c are 10^9 instructions.
 # It needs qemu-system-riscv32, qemu-img, gdb-multiarch and riscv64-unknown-elf-gcc.
@@ -24,17 +24,21 @@ link() { # OUTPUT WORD..
 link hosted.elf
 link bare.elf -DBARE -Wl,-Ttext=0x80000000 -mcmodel=medany
 
-# The least seconds of all runs of the words, which end with STATUS.
+# The least seconds of all runs of the words, which end with STATUS: by the clock, and of the processor.
 least() { # STATUS WORD..
-    local status wanted=$1 times=() run
+    local status wanted=$1 run
+    : >taken
     shift
     for ((run = 0; run < runs; run++)); do
         status=0
-        { TIMEFORMAT=%R && time "$@" >out 2>err; } 2>seconds || status=$?
+        { TIMEFORMAT='%R %U %S' && time "$@" >out 2>err; } 2>seconds || status=$?
         [ "$status" -eq "$wanted" ] || { echo "'$*' ended with $status, and not with $wanted:" >&2; cat err >&2; exit 1; }
-        times+=("$(cat seconds)")
+        cat seconds >>taken
     done
-    printf '%s\n' "${times[@]}" | sort -g | head -n 1
+    awk '{ busy = $2 + $3 }
+        NR == 1 || $1 < clock { clock = $1 }
+        NR == 1 || busy < least { least = busy }
+        END { print clock, least }' taken
 }
 
 # (a machine that doesn't come to its end is stopped)
@@ -47,14 +51,17 @@ states=(-drive "file=states.qcow2,if=none,id=states")
 # Leads QEMU's replay to the fault, and one instruction back: prints the seconds of each.
 walk() {
     local port=$((20000 + RANDOM % 20000)) emulator
-    emulate "${states[@]}" -icount shift=1,rr=replay,rrfile=rr.log,rrsnapshot=start -S -gdb "tcp:127.0.0.1:$port" &
+    emulate "${states[@]}" -icount shift=1,rr=replay,rrfile=rr.log,rrsnapshot=start -S -gdb "tcp:127.0.0.1:$port" -pidfile pid &
     emulator=$!
     cat >walk.py <<END
-import gdb, time
+import gdb, os, time
+def busy():
+    fields = open(f"/proc/{open('pid').read().strip()}/stat").read().rsplit(")", 1)[1].split()
+    return (int(fields[11]) + int(fields[12])) / os.sysconf("SC_CLK_TCK")
 def seconds(command):
-    begin = time.perf_counter()
+    clock, before = time.perf_counter(), busy()
     gdb.execute(command, to_string=True)
-    return time.perf_counter() - begin
+    return f"{time.perf_counter() - clock:.3f} {busy() - before:.3f}"
 gdb.execute("set confirm off")
 for _ in range(100):
     try:
@@ -72,7 +79,7 @@ END
     wait "$emulator" 2>/dev/null || :
 }
 
-say() { printf '%-44s %8.3f s\n' "$1" "$2"; } # WHAT SECONDS
+say() { printf '%-44s %8.3f s, processor %8.3f s\n' "$1" "${2% *}" "${2#* }"; } # WHAT "CLOCK PROCESSOR"
 
 debug() { printf '%s\n' "$@" quit | "$zelkuma" debug log hosted.elf; } # COMMAND..
 
@@ -86,6 +93,6 @@ qemu-img create -q -f qcow2 states.qcow2 64M
 say "qemu-system-riscv32 rr=record" "$(least 0 emulate "${states[@]}" -icount shift=1,rr=record,rrfile=rr.log,rrsnapshot=start)"
 say "the same, without a record" "$(least 0 emulate -icount shift=1)"
 say "the same, an instruction at a time" "$(least 0 emulate -icount shift=1 -singlestep)"
-for ((run = 0; run < runs; run++)); do walk; done | sort -k 1,1r -k 2,2g |
-    awk '!seen[$1]++ { printf "%-44s %8.3f s, at %s\n", "qemu-system-riscv32 rr=replay, " ($1 == "to" ? "to the fault" : "a step back"), $2, $3 }'
+for ((run = 0; run < runs; run++)); do walk; done | sort -k 1,1r -k 3,3g |
+    awk '!seen[$1]++ { printf "%-44s %8.3f s, processor %8.3f s, at %s\n", "qemu-system-riscv32 rr=replay, " ($1 == "to" ? "to the fault" : "a step back"), $2, $3, $4 }'
 stat -c '%n: %s bytes' log rr.log
