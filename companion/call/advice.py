@@ -62,9 +62,8 @@ ADVICE = {                  # by the beginning of the line on err
     "elf: NeedsE": (
         "it has 16 registers: build it with '-march=rv32ima'"),
     "elf: Outside": (
-        "a segment is outside of the memory, which begins at 4,096: "
-        "give a larger '--memory', up to "
-        "64M, or link it lower"),
+        "a segment is outside of the memory, which begins at 4,096: give a larger '--memory', up "
+        "to 64M, or link it lower"),
     "elf: SegmentsTouch": (
         "two of its segments share a word: align sections to 4 bytes in the linker script"),
     "elf: EntryOutside": (

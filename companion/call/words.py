@@ -23,8 +23,8 @@ Companions show; the program proves. `python3 companion WORD --help` tells each 
 # exit status.
 PARTS = {
     "recording": "names",
-    "why": "why output",
-    "orders": "run race seeds shrink whatif recheck again",
+    "why": "why output race",
+    "orders": "run seeds shrink whatif recheck again",
     "view": "view",
     "gdb": "gdb",
     "triage": "bucket triage",

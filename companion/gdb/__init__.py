@@ -1,7 +1,7 @@
 """A bridge from gdb's remote protocol to the commands of `debug`: what gdb shows is what `debug`
 says, and the ELF file of memory that nothing touched.
 
-May use: call, recording, why, questions.
+May use: call, recording, questions.
 
 How it works
 ------------

@@ -7,7 +7,7 @@ from typing import Any, Dict, List, Optional, Sequence
 
 from ..call.errors import UNSURE
 from ..call.kinds import text_kind
-from ..triage.forms import cleaned, quoted
+from ..call.xml_text import xml_attribute, xml_text
 from .verdict import HOLDS, Checked, answer, lines
 
 BEGINS = '<?xml version="1.0" encoding="utf-8"?>\n<testsuite name="zelkuma recheck"'
@@ -47,7 +47,7 @@ def junit_text(results: Sequence[Result]) -> str:
     said = [f'{BEGINS} tests="{len(results)}" failures="{failed}" errors="{errors}">']
     for result in results:
         program = result.found.order.program if result.found else ""
-        said.append(f"<testcase classname={quoted(program)} name={quoted(result.name)}>")
+        said.append(f"<testcase classname={xml_attribute(program)} name={xml_attribute(result.name)}>")
         said += [outcome(result), "</testcase>"]
     return "\n".join(said + ["</testsuite>", ""])
 
@@ -62,8 +62,8 @@ def is_error(result: Result) -> bool:
 
 def outcome(result: Result) -> str:
     told: List[str] = lines(result.found) if result.found else [result.refused]
-    text = cleaned("\n".join(told))
+    text = xml_text("\n".join(told))
     if not result.is_failed and not result.is_error:
         return f"<system-out>{text}</system-out>"
     kind = "failure" if result.is_failed else "error"
-    return f"<{kind} message={quoted(result.text())}>{text}</{kind}>"
+    return f"<{kind} message={xml_attribute(result.text())}>{text}</{kind}>"

@@ -15,7 +15,7 @@ from ..call.scratch import Scratch
 from ..call.text import counted, number
 from ..recording.answers import LONGEST
 from ..recording.calls import Entries
-from ..recording.cause import cause_of
+from ..recording.cause import bucket_of, cause_of
 from ..recording.elf import Elf
 from ..recording.log import Log, load_log
 from ..recording.opened import Program
@@ -23,7 +23,6 @@ from ..recording.ready import ready
 from ..recording.stacks import Stacks
 from ..recording.story import MOST_TOLD, Switch, Teller, lines_by_piece
 from ..recording.turns import pieces_of, shown, size_of
-from ..triage.bucket import bucket_of
 from ..why.facts import Byte
 from ..why.output import MOST_ROWS, numbered, writes_of
 from .meaning import Meaning

@@ -13,11 +13,10 @@ from ..call.errors import REFUSED, CompanionError
 from ..call.saving import Target
 from ..call.scratch import Scratch
 from ..call.text import counted, number
-from ..recording.cause import cause_of
+from ..recording.cause import Bucket, bucket_of, cause_of
 from ..recording.log import load_log
 from ..recording.memory import quoted
 from ..recording.opened import Program
-from ..triage.bucket import Bucket, bucket_of
 from ..why.analysis import analysed
 from .input_ends import HART, InputEnds, Loop
 from .input_search import InputSearch

@@ -15,10 +15,9 @@ from ..call import streams
 from ..call.children import Forked, Process
 from ..call.jobs import Jobs
 from ..call.saving import take_together
-from ..recording.cause import Cause, cause_of_file
+from ..recording.cause import Cause, bucket_of, cause_of_file
 from ..recording.opened import Program
 from ..recording.recent import LogFile, exit_code
-from ..triage.bucket import bucket_of
 from .record import DONE, ENDS, FAULT, Kind, Plan, Quick, RecordWords, last_line, refusal
 from .wanted import Wanted
 

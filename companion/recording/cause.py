@@ -2,6 +2,7 @@
 looked at."""
 from __future__ import annotations
 
+import hashlib
 import json
 import re
 from collections import deque
@@ -12,6 +13,7 @@ from .calls import Entries
 from .chunks import chunks, rows_between
 from .elf import Elf
 from .log import End, Log, is_fault
+from .places import Places
 from .recent import FIRST_ROWS, LogFile
 from .stacks import Chunk, Frame, Stacks, call_places
 
@@ -20,6 +22,7 @@ MOST_FRAMES = 200       # a recursion is told by these; no sound program has mor
 # Of all harts, for the calls over a loop: one hart's share takes some seconds
 HANG_ROWS = 20000000
 EXITS = "exit", "group"
+UNKNOWN = "-"           # of a bucket
 
 
 class Cause(NamedTuple):
@@ -113,3 +116,36 @@ def cause_of_file(source: LogFile, elf_name: str) -> Cause:
     if not log.unread or end.reason != "limit":
         return cause_of(log, elf_name)
     return cause_along(rows_between(source.end(HANG_ROWS), elf_name, hart, 0, end.count), hart, end)
+
+
+def digest_of(cause: Cause, elf: Elf) -> str:
+    """Of what the recorded file and the log alone say: so it is the same on each machine, whatever
+    tools and files with names are there."""
+    said = [cause.reason, UNKNOWN if cause.reason == "limit" else f"{cause.pc:08x}",
+            *cause.functions(elf)]
+    return hashlib.sha256("\n".join(said).encode("utf-8", "replace")).hexdigest()[:8]
+
+
+class Bucket(NamedTuple):
+    """How the run ended, the function, FILE:LINE, and the digest; UNKNOWN for what isn't told."""
+    reason: str
+    function: str
+    place: str
+    digest: str
+
+    @property
+    def is_good(self) -> bool:
+        """Whether the run ended well: by an exit of code 0."""
+        return self.reason in EXITS and self.function == "0"
+
+    def line(self) -> str:
+        return " ".join(word.replace(" ", "_") if at else word for at, word in enumerate(self))
+
+
+def bucket_of(cause: Cause, elf: Elf, places: Places) -> Bucket:
+    """`elf` is the recorded file, and `places` are those of one with names."""
+    if cause.reason in EXITS:
+        return Bucket(cause.reason, str(cause.value), UNKNOWN, UNKNOWN)
+    frame = places.innermost(cause.pc)
+    place = f"{frame.file}:{frame.line}" if frame.line and cause.reason != "limit" else UNKNOWN
+    return Bucket(cause.reason, places.function(cause.pc), place, digest_of(cause, elf))

@@ -1,17 +1,12 @@
 """One line for each cause."""
 from __future__ import annotations
 
-import hashlib
-from typing import NamedTuple
-
 from ..call import streams
 from ..call.help import Help
 from ..call.options import read_words
 from ..recording.answers import put_answer
-from ..recording.cause import EXITS, Cause, cause_of_file
-from ..recording.elf import Elf
+from ..recording.cause import bucket_of, cause_of_file
 from ..recording.opened import opened
-from ..recording.places import Places
 
 HELP = Help(
     "bucket LOG ELF [--names ELF] [--json]", "one line by which logs are sorted by their cause",
@@ -23,40 +18,6 @@ counts and the schedule aren't in it.""", {},
     """A run that came to its limit is told by the outermost function of its last rows, since any
 row of a loop can be last. Of a large log the last million rows are read, of such a run 20 million,
 and calls from before them aren't known.""")
-UNKNOWN = "-"
-
-
-def digest_of(cause: Cause, elf: Elf) -> str:
-    """Of what the recorded file and the log alone say: so it is the same on each machine, whatever
-    tools and files with names are there."""
-    said = [cause.reason, UNKNOWN if cause.reason == "limit" else f"{cause.pc:08x}",
-            *cause.functions(elf)]
-    return hashlib.sha256("\n".join(said).encode("utf-8", "replace")).hexdigest()[:8]
-
-
-class Bucket(NamedTuple):
-    """How the run ended, the function, FILE:LINE, and the digest; UNKNOWN for what isn't told."""
-    reason: str
-    function: str
-    place: str
-    digest: str
-
-    @property
-    def is_good(self) -> bool:
-        """Whether the run ended well: by an exit of code 0."""
-        return self.reason in EXITS and self.function == "0"
-
-    def line(self) -> str:
-        return " ".join(word.replace(" ", "_") if at else word for at, word in enumerate(self))
-
-
-def bucket_of(cause: Cause, elf: Elf, places: Places) -> Bucket:
-    """`elf` is the recorded file, and `places` are those of one with names."""
-    if cause.reason in EXITS:
-        return Bucket(cause.reason, str(cause.value), UNKNOWN, UNKNOWN)
-    frame = places.innermost(cause.pc)
-    place = f"{frame.file}:{frame.line}" if frame.line and cause.reason != "limit" else UNKNOWN
-    return Bucket(cause.reason, places.function(cause.pc), place, digest_of(cause, elf))
 
 
 def main(words: list[str]) -> int:

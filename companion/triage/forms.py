@@ -5,10 +5,10 @@ import json
 import re
 import time
 from typing import Any
-from xml.sax.saxutils import escape, quoteattr
 
 from ..call.kinds import text_kind
-from ..call.text import clean, counted
+from ..call.text import counted
+from ..call.xml_text import xml_attribute, xml_text
 from ..recording.answers import LONGEST, VERSION
 from ..recording.cause import EXITS
 from .store import File
@@ -50,23 +50,15 @@ def junit_text(table: Table) -> str:
     lines = [f'{JUNIT_BEGINS} tests="{len(groups) + len(unread)}" failures="{failed}" '
              f'errors="{len(unread)}">']
     for group in groups:
-        lines.append(f"<testcase classname={quoted(group.bucket.reason)} "
-                     f"name={quoted(group.bucket.line())}>")
+        lines.append(f"<testcase classname={xml_attribute(group.bucket.reason)} "
+                     f"name={xml_attribute(group.bucket.line())}>")
         if group.bucket.reason not in EXITS:
             said = "\n".join(filter(None, [group.error, group.suspect, group.command()]))
-            message = quoted(counted(group.count, "log"))
-            lines.append(f"<failure message={message}>{cleaned(said)}</failure>")
+            message = xml_attribute(counted(group.count, "log"))
+            lines.append(f"<failure message={message}>{xml_text(said)}</failure>")
         lines.append("</testcase>")
     for why, files in unread:
-        message = quoted(counted(len(files), "log"))
-        lines.append(f"<testcase classname=\"unread\" name={quoted(why)}><error message={message}>"
-                     f"{cleaned(files[0].name)}</error></testcase>")
+        message = xml_attribute(counted(len(files), "log"))
+        lines.append(f"<testcase classname=\"unread\" name={xml_attribute(why)}><error message={message}>"
+                     f"{xml_text(files[0].name)}</error></testcase>")
     return "\n".join(lines + ["</testsuite>", ""])
-
-
-def quoted(text: str) -> str:
-    return quoteattr(clean(text))
-
-
-def cleaned(text: str) -> str:
-    return escape("\n".join(map(clean, text.split("\n"))))

@@ -6,8 +6,7 @@ import time
 from dataclasses import dataclass, field
 
 from ..call.text import counted, number
-from ..recording.cause import EXITS
-from .bucket import Bucket
+from ..recording.cause import EXITS, Bucket
 from .store import File
 from .work import SALVAGED, Answer
 

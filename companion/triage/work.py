@@ -11,13 +11,12 @@ from typing import Callable, Iterator, NamedTuple, TypeVar
 from ..call import program
 from ..call.errors import BAD_LOG, NO_MEMORY, CompanionError
 from ..call.scratch import Scratch
-from ..recording.cause import cause_of_file
+from ..recording.cause import Bucket, bucket_of, cause_of_file
 from ..recording.opened import Program
 from ..recording.recent import LogFile, open_log
 from ..why.analysis import Analysis, analysed
 from ..why.memory_part import MemoryErrors
 from ..why.suspect import DID
-from .bucket import Bucket, bucket_of
 
 # Seconds of processor time for a bucket, which reads a million rows, and for a suspect, which reads
 # 2.6 million into arrays.

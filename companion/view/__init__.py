@@ -1,3 +1,3 @@
 """A log as one page: its data, and what the browser runs, which lies in page/.
 
-May use: call, recording, why, orders, questions."""
+May use: call, recording, why, questions."""

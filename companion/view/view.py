@@ -17,7 +17,7 @@ from ..call.help import Help
 from ..call.options import read_words
 from ..call.text import as_text, number
 from ..call.version import version
-from ..orders.race import Judged, family_word, pairs_of
+from ..why.race import Judged, family_word, pairs_of
 from ..recording.instruction import NAMES
 from ..recording.races import AccessPair, Group, Races
 from ..recording.story import Story, Teller, asked_story

@@ -333,7 +333,7 @@ def words_limits(table: Table) -> Lines:
 # What the companions know: the same advice, as entries of a dictionary in Python.
 
 def pair(key: str, text: str) -> str:
-    lines = textwrap.wrap(text.replace("`", "'").replace('"', "'"), 90, break_on_hyphens=False)
+    lines = textwrap.wrap(text.replace("`", "'").replace('"', "'"), 89, break_on_hyphens=False)
     return f'    "{key}": (\n' + "\n".join(f'        "{line} "' for line in lines)[:-2] + '"),'
 
 

@@ -30,7 +30,7 @@ declare -A takes=(
 [record.ways2]="N"
 [audit.input]="FILE"
 )
-companions=" names why output run race seeds shrink whatif recheck again view gdb bucket triage memory history at calls find compare export "
+companions=" names why output race run seeds shrink whatif recheck again view gdb bucket triage memory history at calls find compare export "
 # The ranges of names that are numbers, and of options.
 declare -A ranges=(
 [HART]="0 to 18446744073709551615"

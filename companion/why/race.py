@@ -16,7 +16,7 @@ from ..recording.races import FENCED, ORDERED, TOO_MANY, AccessPair, Group, Race
 from ..recording.recent import FIRST_ROWS, LogFile
 from ..recording.story import STORY_HEAD, Teller, asked_story
 from ..recording.trace import Trace, read_trace
-from ..why.history import History
+from .history import History
 from .ignored import Ignored
 
 HELP = Help(
