@@ -17,6 +17,7 @@ from .sums import Sums
 from ..recording.cut import pc_of, word_of
 from ..recording.instruction import A0, ALU, AMO, CALL, JUMP, LOAD, SP, STORE
 
+OUTSIDE = b"Outside "        # in the names of faults at addresses that aren't mapped
 FAULT = b"fault"            # the key of a row that ended in a fault
 KEY = 17                    # bytes of an address and a word in a row
 
@@ -95,10 +96,16 @@ class Actions(Dict[bytes, Act]):
         is_access = one.kind in (LOAD, STORE, AMO)
         checks.undefined.used(hart, one, row, (one.rs1,),
                               "an address depends" if is_access else "a jump depends")
-        thing = hart.tags[one.rs1] if is_access else None
-        if thing is not None and not thing.holds(int(row[-8:], 16), one.width):
-            checks.judge.outside(Access(hart, row, one, int(row[-8:], 16), one.width,
-                                        one.kind != LOAD, one.rs1), thing)
+        if not is_access:
+            return
+        address = int(row[-8:], 16)
+        access = Access(hart, row, one, address, one.width, one.kind != LOAD, one.rs1)
+        thing = hart.tags[one.rs1]
+        if thing is not None and not thing.holds(address, one.width):
+            checks.judge.outside(access, thing)
+        checks.pointers.judge()                 # no more stores come
+        if OUTSIDE in row and not checks.findings.kept:
+            checks.judge.tell_unmapped(access)
 
 
 class Careful(Dict[bytes, Act]):

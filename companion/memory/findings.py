@@ -27,6 +27,7 @@ RETURN = "return-address-overwritten"
 POINTER = "invalid-pointer-stored"
 UNINITIALIZED = "use-of-uninitialized-value"
 OVERLAP = "memcpy-param-overlap"
+UNMAPPED = "unmapped-address"
 LEAK = "memory-leak"
 
 

@@ -10,7 +10,7 @@ from ..recording.instruction import ALU, AMO, BRANCH, JUMP, LOAD, NAMES, SP, STO
 from .facts import Facts
 from .findings import (
     AFTER_RETURN, AFTER_SCOPE, FREED as FREED_KIND, GLOBAL as GLOBAL_KIND, HEAP,
-    MEMBER as MEMBER_KIND, NULL as NULL_KIND, OVERLAP, REGISTER, STACK,
+    MEMBER as MEMBER_KIND, NULL as NULL_KIND, OVERLAP, REGISTER, STACK, UNMAPPED,
     Finding, Findings)
 from .heap import Heap
 from .operation import FULL, Operation
@@ -282,6 +282,13 @@ class Judge:
         self.findings.add((OVERLAP, when.pcs[1:2]), Finding(
             OVERLAP,
             f"memcpy of {size} bytes between places that have {common} bytes in common", when))
+
+    def tell_unmapped(self, access: Access) -> None:
+        """The run ended here, and nothing else was found."""
+        made = self.source(access, FULL)
+        self.findings.add(UNMAPPED, Finding(
+            UNMAPPED, f"{access.verb} at {access.address:08x}, where nothing is mapped",
+            access.hart.event(access.row, access.one.pc), None, *(made or (0, ""))))
 
     # To bytes that are no one's, whatever the pointer was made for.
 

@@ -6,6 +6,7 @@ from typing import Any
 
 from ..call.page import Part
 from ..memory.answer import Answer, events_of
+from ..memory.findings import UNMAPPED
 from ..memory.memory import LARGEST_MEMORY
 from ..memory.run import run_of
 from ..recording.answers import LONGEST
@@ -25,6 +26,8 @@ class MemoryErrors:
         if not facts.asked and facts.log.memory <= LARGEST_MEMORY:
             self.answer = Answer(run_of(facts.log, facts.elf.name, facts.named), facts.places,
                                  [], [])
+            # The fault itself is told already.
+            self.answer.findings = [each for each in self.answer.findings if each.kind != UNMAPPED]
             told = {(event.hart, pc) for each in self.answer.findings for event in events_of(each)
                     for pc in event.pcs}
             left = [item for item in facts.shown if item.kind not in GUESSES

@@ -16,7 +16,7 @@ import re
 import sys
 import unittest.mock
 from contextlib import closing
-from typing import Any, Callable, Dict, Iterator, List, NamedTuple, Tuple
+from typing import Any, Callable, Dict, Iterator, NamedTuple, Tuple
 
 HERE = os.path.dirname(os.path.abspath(__file__))
 sys.path[:0] = [os.path.join(HERE, "..", *part)
@@ -26,14 +26,15 @@ from companion.memory import (                      # noqa: E402
 from companion.memory.answer import Answer          # noqa: E402
 from companion.memory.state import GOOD             # noqa: E402
 from companion.recording import types               # noqa: E402
+from companion.recording.chunks import chunks       # noqa: E402
 from companion.recording.elf import Elf             # noqa: E402
 from companion.recording.log import load_log        # noqa: E402
 from companion.recording.places import Places       # noqa: E402
 import tries                                        # noqa: E402
 from memory_test import CASES, MemoryTest          # noqa: E402
 
-# Of a log: thirty runs of a longer one take minutes, and most tests are shorter
-MOST_ROWS = 300000
+# Of a log: it is followed up to 37 times, and most tests are shorter
+MOST_ROWS = 20000
 NEVER = re.compile(r"(?!)")
 NONE, NO, YES = (lambda *_given, told=told: told for told in (None, False, True))
 Patches = Tuple[Tuple[Any, str, Any], ...]
@@ -57,6 +58,7 @@ CHECKS: Dict[str, Patches] = {
     "types of pointers": ((pointers.PointerWords, "stored", NONE),),
     "bits that nobody wrote": ((undefined.UndefinedBits, "tell", NONE),),
     "overlap": ((judge.Judge, "tell_overlap", NONE),),
+    "addresses outside of memory": ((judge.Judge, "tell_unmapped", NONE),),
     "read and write calls": ((calls.Calls, "clip", NONE),),
     "leaks": ((leaks, "leaks_of", lambda *_: []),)}
 RULES: Dict[str, Patches] = {
@@ -77,6 +79,7 @@ RULES: Dict[str, Patches] = {
     "marks in pointers": ((pointers, "LEAST_ADDRESS", 1),),
     "mem* move bytes of any type": ((pointers, "COPIES", NEVER),)}
 WHOLE = "nothing"
+programs: Dict[str, program.Program] = {}
 
 
 class Tried(NamedTuple):
@@ -123,44 +126,52 @@ def logs_of_twins() -> Iterator[Tried]:
             yield Tried(test, (), case.log(name, which), elf)
 
 
-def end_of(tried: Tried, elf: Elf, places: Places) -> str:
-    """How a log is told, with what is left out now."""
-    pool = tries.POOL[1::2]
-    has_pool = tried.test.elf and {each.name for each in elf.functions}.issuperset(pool)
-    takes, gives = (pool[:1], pool[1:]) if has_pool else ((), ())
-    found = run.run_of(load_log(tried.log), tried.elf, elf, takes, gives)
-    asks = tried.test.kind == tries.LEAK
-    lost = leaks.leaks_of(found.heap, found.harts, tried.log, tried.elf) if asks else []
-    answer = Answer(found, places, [], lost).answer()
-    end: str = tries.judged(tried.test, tried.lines, answer)["memory"]
-    return end
+class Log:
+    """A log whose rows and program are read once, however often it is followed."""
 
+    def __init__(self, tried: Tried, places: Places) -> None:
+        self.tried, self.places = tried, places
+        self.log = load_log(tried.log)
+        self.program = programs.setdefault(tried.elf, program.Program(places.elf))
+        self.texts = list(chunks(tried.log, tried.elf, log=self.log))
+        names = {each.name for each in places.elf.functions}
+        self.pool = tries.POOL[1::2] if tried.test.elf and names.issuperset(tries.POOL[1::2]) else ()
 
-def ends_of(tried: Tried, wanted: Callable[[str], bool]) -> Iterator[Tuple[str, str]]:
-    """(what is left out, the end)"""
-    elf = Elf(tried.elf)
-    with closing(Places(elf)) as places:
-        whole = end_of(tried, elf, places)
+    def end(self) -> str:
+        """How it is told, with what is left out now."""
+        tried = self.tried
+        hooks = run.hooks_of(self.program, self.pool[:1], self.pool[1:])
+        found = run.Run(self.log, self.program, hooks)
+        found.along(self.texts)
+        asks = tried.test.kind == tries.LEAK
+        lost = leaks.leaks_of(found.heap, found.harts, tried.log, tried.elf) if asks else []
+        answer = Answer(found, self.places, [], lost).answer()
+        end: str = tries.judged(tried.test, tried.lines, answer)["memory"]
+        return end
+
+    def ends(self, wanted: Callable[[str], bool]) -> Iterator[Tuple[str, str]]:
+        """(what is left out, the end)"""
+        whole = self.end()
         yield WHOLE, whole
         has_finding = whole not in ("not told", "silent")
         for name, patches in {**(CHECKS if has_finding else {}), **RULES}.items():
             if wanted(name):
                 with without(patches):
-                    yield name, end_of(tried, elf, places)
+                    yield name, self.end()
 
 
 def main(folder: str, *begins: str) -> None:
     found: Dict[str, Dict[str, str]] = {}
-    logs: List[Tried] = [*logs_of_twins(), *logs_of_tests(folder)]
-    for tried in logs:
-        if load_log(tried.log).rows() <= MOST_ROWS:
-            ends = dict(ends_of(tried, lambda name: name.startswith(begins or ("",))))
-            found[tried.name] = ends
-            changed = (f"; without {name}: {end}"
-                       for name, end in ends.items() if end != ends[WHOLE])
-            print(tried.name, ends[WHOLE], *changed, flush=True)
-    with open(os.path.join(folder, "ablation.json"), "w", encoding="utf-8") as file:
-        json.dump({"checks": list(CHECKS), "rules": list(RULES), "ends": found}, file, indent=0)
+    for tried in [*logs_of_twins(), *logs_of_tests(folder)]:
+        if load_log(tried.log).rows() > MOST_ROWS:
+            continue
+        with closing(Places(Elf(tried.elf))) as places:
+            ends = dict(Log(tried, places).ends(lambda name: name.startswith(begins or ("",))))
+        found[tried.name] = ends
+        changed = (f"; without {name}: {end}" for name, end in ends.items() if end != ends[WHOLE])
+        print(tried.name, ends[WHOLE], *changed, flush=True)
+        with open(os.path.join(folder, "ablation.json"), "w", encoding="utf-8") as file:
+            json.dump({"checks": list(CHECKS), "rules": list(RULES), "ends": found}, file, indent=0)
 
 
 if __name__ == "__main__":

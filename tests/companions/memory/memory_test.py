@@ -321,6 +321,15 @@ class MemoryTest(case.Case):
             self.assertIn("  1. ", suspects)
         self.assertIn("gave the memory back in evict freed_entry.c:70", self.says("why", *self.crash("freed_entry"), "--brief"))
 
+    def test_a_fault_that_nothing_explains(self):
+        """`why` tells it otherwise. It isn't told beside another finding."""
+        self.needs_addr2line()
+        (found,), _ = self.found(*self.crash("null_route"))
+        self.assertEqual((found["kind"], found["calls"][0]["line"] > 0), (findings.UNMAPPED, True))
+        self.assertRegex(found["text"], r"^(load|store) of [124] at 0000[0-9a-f]{4}, where nothing is mapped$")
+        self.assertEqual(json.loads(self.says("why", *self.crash("null_route"), "--json"))["memory"], [])
+        self.assertNotIn(findings.UNMAPPED, [each["kind"] for each in self.found(*self.crash("libc_end_of_block"))[0]])
+
     def test_fail_is_a_status(self):
         for which, status in (("b", memory.FOUND), ("g", 0)):
             self.assertEqual(common.companion("memory", self.log("freed", which), self.built, "--fail")[0], status)
