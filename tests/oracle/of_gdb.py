@@ -103,7 +103,8 @@ def ask_gdb(asked: Asked, draw: random.Random) -> None:
                                for number, state in zip(numbers, true)], names)
     for question, answer in zip(names, told["answers"]):
         word, what = question.split(" ")
-        asked.same("gdb: monitor", [question], answer.splitlines(), asked.text(word, what))
+        told_lines = [line for line in answer.splitlines() if not line.startswith("zelkuma: ")]
+        asked.same("gdb: monitor", [question], told_lines, asked.text(word, what))
     for number, state, one in zip(numbers, true, told["states"]):
         at = f"at {rows[number].hart}:{rows[number].ic}"
         asked.same("gdb: pc", [at], one["pc"], state.pc)
