@@ -3,19 +3,14 @@ wait in a circle."""
 from __future__ import annotations
 
 import re
-from collections import Counter
 from typing import NamedTuple, Optional, Sequence
 
-from ..call.text import number
 from ..recording.instruction import AMO
 from .facts import Facts, StackFrame
 from .lock_words import Setting
 from .locks import name_of
 from .loops import Loop
-from .suspect import Extra, Suspect
 
-CIRCLE = 12                 # what a circle is worth: as much as an address, since none is sound
-MOST_TIMES = 1000           # a lock that was taken more often in the same call is a loop's own
 EMPTY = re.compile(r" \| load \w{8}=00000000 \| store ")
 
 
@@ -97,25 +92,6 @@ def in_circle(waits: Sequence[Wait]) -> list[Wait]:
         if wait == first:
             return circle
     return []
-
-
-def deadlock_suspects(facts: Facts) -> list[Suspect]:
-    """Harts that wait for each other's locks: first the one that waits where locks were taken least
-    often, since its order is the odd one."""
-    if not facts.hangs or len(facts.rows.last) < 2:
-        return []
-    times = Counter(facts.calls.node_of(each.row) for each in facts.changes if each.is_set)
-    circle = in_circle(waits_of(facts, facts.changes))
-    found = []
-    for wait in circle if len(circle) > 1 else ():
-        taken = times[facts.calls.node_of(wait.row)]
-        suspect = Suspect("order", wait.row, wait.row, 0)
-        suspect.sign(CIRCLE - min(taken, MOST_TIMES) / MOST_TIMES, "the harts wait for each "
-                     f"other's locks; here a lock was taken {number(taken)} times")
-        held = next(other.taken.row for other in circle if other.taken.hart == wait.hart)
-        suspect.extra += [Extra("it holds the lock that it took in", held)] * bool(held)
-        found.append(suspect)
-    return found
 
 
 def deadlock_lines(facts: Facts) -> list[str]:

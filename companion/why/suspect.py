@@ -6,11 +6,10 @@ from typing import NamedTuple
 # What the guilty row of each kind did, and what its other two rows did.
 DID = {"store": "stored it in", "back": "gave the memory back in",
        "twice": "gave the memory back in", "calls": "calls itself in", "branch": "chose the way in",
-       "unlocked": "didn't hold the others' lock in", "order": "waits for a lock in",
-       "failed": "stored nothing in", "unset": "loaded from its stack what it never stored in"}
+       "unlocked": "didn't hold the others' lock in", "failed": "stored nothing in"}
 NEW_OWNER = "the new owner stored in"
 # Kinds that have no load
-ALONE = "twice", "calls", "branch", "unlocked", "order", "failed", "unset"
+ALONE = "twice", "calls", "branch", "unlocked", "failed"
 
 
 class Extra(NamedTuple):
@@ -28,9 +27,7 @@ class Suspect:
      "twice"     memory that was given back twice
      "branch"    a branch that chose the way
      "unlocked"  an access without the lock that others hold
-     "order"     a wait for a lock of a hart that waits for one of this hart's
      "failed"    a store-conditional that failed unread
-     "unset"     a load of a word of the stack that its call never stored
      "calls"     a function that keeps calling itself
     load, store  its rows; they are the same row if it has only one
     guilty       the row that the suspect is about

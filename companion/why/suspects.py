@@ -17,13 +17,12 @@ from ..recording.instruction import AMO, STORE
 from ..recording.log import At
 from ..recording.rows import LOADS
 from .branches import Ways, branch_suspects
-from .deadlock import deadlock_suspects
 from .facts import Facts
 from .history import ADDRESS, History, Pair
 from .locks import unlocked
 from .memory_use import MemoryUse
 from .suspect import Extra, Suspect, rank
-from .unread import failed_stores, unset
+from .unread import failed_stores
 
 # What a sign is worth, in steps of a history along values. ADDRESS is 12 of them.
 OTHER_HART = 8              # harts share few words, and a value from elsewhere is soon too old
@@ -73,8 +72,7 @@ class Ranking:
         memory = MemoryUse(facts)
         found = [suspect for item in stores[:MOST_LOOKED_AT] for suspect in memory.judge(item)]
         found += memory.given_back_twice() + branch_suspects(facts, history, self.ways)
-        found += (unlocked(facts, history) + deadlock_suspects(facts)
-                  + failed_stores(facts, history) + unset(facts, history))
+        found += unlocked(facts, history) + failed_stores(facts, history)
         found = self.own_first(stores + found + recursion)
         self.found = self.once(sorted(found + self.behind_places(found, memory), key=rank))
 
@@ -127,10 +125,7 @@ class Ranking:
     def lines_of(self, item: Suspect) -> set[str]:
         """The lines that a suspect is about."""
         rows = [item.guilty] + [extra.row for extra in item.extra]
-        lines = {self.facts.own_line(n) for n in rows}
-        if item.kind == "order":                # a lock's function
-            lines |= {frame.place for frame in self.facts.callers(item.guilty)}
-        return lines
+        return {self.facts.own_line(n) for n in rows}
 
     def behind_others(self, found: list[Suspect]) -> list[Suspect]:
         told: set[str] = set()

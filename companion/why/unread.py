@@ -1,22 +1,17 @@
-"""Two slips that the rows show by themselves: a store-conditional that failed and whose answer
-nobody read, and a word of the stack that was loaded before its call stored it."""
+"""A slip that the rows show by themselves: a store-conditional failed, and nothing read its
+answer."""
 from __future__ import annotations
 
 from collections import Counter
 
 from ..call.text import counted
-from ..recording.instruction import ALU, SP
-from ..recording.rows import LOADS, STORES, Rows
-from ..recording.trace import Trace
+from ..recording.rows import STORES, Rows
 from .facts import Facts
 from .history import History
-from .suspect import Extra, Suspect
+from .suspect import Suspect
 
 UNREAD = 12                 # what the sign is worth: an address, since the store is taken for done
-UNSET = 14                  # and more: what a call never stored is no value of the program's
 MOST_READERS = 64           # rows behind a store-conditional that may read its answer
-MOST_LOADS = 400            # that are looked at: the history's nearest
-MOST_FRAMES = 1000          # rows of the stack's pointer behind each: deeper calls are a recursion
 
 
 def failed_stores(facts: Facts, history: History) -> list[Suspect]:
@@ -49,46 +44,3 @@ def is_unread(rows: Rows, n: int) -> bool:
         if rows.hart[at] == rows.hart[n] and register in (ins.rs1, ins.rs2, ins.rd):
             return register not in (ins.rs1, ins.rs2)
     return not register
-
-
-def unset(facts: Facts, history: History) -> list[Suspect]:
-    """Loads behind the start of a word in a frame of the stack that nothing stored since the frame
-    was made."""
-    rows = facts.rows
-    writers = facts.writers
-    trace = facts.trace
-    loads = [n for n in history.cost if rows.flags[n] & LOADS]
-    found: dict[str, Suspect] = {}
-    for n in sorted(loads, key=lambda row: (history.cost[row], -row))[:MOST_LOADS]:
-        frame = frame_of(trace, n)
-        stores, rest = writers.stores(n)
-        old = [store for store in stores if store < frame]
-        if frame and (old or rest and not is_filled(rows, frame, n)) and facts.line(n) not in found:
-            suspect = found[facts.line(n)] = Suspect("unset", n, n, history.cost[n])
-            suspect.sign(UNSET, "its bytes are from before this call")
-            suspect.extra += [Extra("they were stored in", store) for store in old[:1]]
-    return list(found.values())
-
-
-def is_filled(rows: Rows, frame: int, load: int) -> bool:
-    """Whether a `read` call filled a load's word since a frame was made."""
-    address = rows.access(load).address
-    return any(frame < call.row < load and call.address <= address < call.address + call.size
-               for call in rows.reads)
-
-
-def frame_of(trace: Trace, load: int) -> int:
-    """The row that made the frame of the stack in which a load's address is, or 0."""
-    address = trace.rows.access(load).address
-    n = trace.writers.first[load]
-    for _ in range(MOST_FRAMES):
-        ins = trace.rows.code_of(n)
-        if not n or ins.kind != ALU:
-            break
-        low = trace.rows.result_of(n)
-        high = trace.rows.result_of(trace.writers.first[n])
-        if (ins.rd == ins.rs1 == SP and low is not None and high is not None
-                and low <= address < high):
-            return n
-        n = trace.writers.first[n]
-    return 0

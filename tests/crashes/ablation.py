@@ -30,8 +30,7 @@ ALL = "all rules"
 PURE = ((facts, "Loop"), (facts, "setting"), (locks, "accesses"),
         (memory_use, "Blocks"), (suspects, "Ways"))
 SEARCHES = (analysis, "History"), (suspects, "History")
-FINDERS = ((suspects, "unlocked"), (suspects, "deadlock_suspects"),
-           (suspects, "failed_stores"), (suspects, "unset"))
+FINDERS = (suspects, "unlocked"), (suspects, "failed_stores")
 
 
 def nothing(*_given):
@@ -71,11 +70,9 @@ RULES: Dict[str, Any] = {
                                     {"branches.add_stored": nothing}),
     "branches": ("", {"suspects.branch_suspects": nothing}),
     "an access without its lock": ("their hart holds", {"suspects.unlocked": nothing}),
-    "locks in a circle": ("each other's locks", {"suspects.deadlock_suspects": nothing}),
     "a deep recursion": ("calls deep", {"recursion.DEEP": 1 << 32}),
     "a failed store-conditional": ("a store-conditional failed",
                                    {"suspects.failed_stores": nothing}),
-    "never stored by its call": ("from before this call", {"suspects.unset": nothing}),
     "what a library formatted": ("", {"analysis.begin_at_argument": nothing}),
     "branches just before": ("", {"history.MOST_BRANCHES": 0}),
     "what decided a row": ("before", {"history.MOST_CONTROL": 0}),
@@ -130,10 +127,11 @@ def analysed(asked, program):
 
 
 def place(found, program):
-    """The guilty line's place among the suspects, or 0."""
+    """The guilty line's place among the suspects, behind a deadlock's sentence, or 0."""
     lines = report.suspect_lines(found, report.MORE_SUSPECTS)
-    return rank_of(program.guilty,
-                   "SUSPECTS\n" + "".join("  %s\n" % line for line in lines) + "END")
+    said = [f"  {line}\n" for line in lines]
+    deadlock = [f"  {line}\n" for line in deadlock_lines(found)]
+    return rank_of(program.guilty, "".join([*deadlock, "SUSPECTS\n", *said, "END"]))
 
 
 def is_fact(found, program):

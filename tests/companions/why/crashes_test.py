@@ -24,7 +24,9 @@ AT_ONCE = 3
 
 
 def rank_of(line, text):
-    """The first suspect that tells of a line, or 0."""
+    """The first suspect that tells of a line, or 0. A deadlock's sentence comes before all."""
+    if re.search(r"^  Deadlock: .*" + re.escape(line) + r"(?!\d)", text, re.M):
+        return 1
     part = re.search(r"^SUSPECTS.*?\n(.*?)^[A-Z]", text, re.S | re.M)
     for suspect in re.split(r"^  (?=\d+\. )", part.group(1) if part else "", flags=re.M)[1:]:
         if re.search(re.escape(line) + r"(?!\d)", suspect):

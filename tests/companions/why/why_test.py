@@ -86,9 +86,11 @@ class WhyTest(case.Case):
         return self.says("why", record(name, elf, "--seed", "3", *options), elf, "--more")
 
     def test_a_word_of_the_stack_that_its_call_never_stored(self):
-        first = suspects(self.built("unset"))[0]
-        self.assertIn("loaded from its stack what it never stored in find unset.c:21", first)
-        self.assertIn("they were stored in fill unset.c:8", first)
+        """That is an error by definition, and no guess."""
+        said = self.built("unset")
+        self.assertIn("use-of-uninitialized-value: an address depends on bytes that nobody wrote, "
+                      "of place of find", said)
+        self.assertIn("the value was loaded in find unset.c:21\n", said)
 
     def test_a_store_conditional_whose_answer_nobody_read(self):
         first = suspects(self.built("conditional", "--harts", "2"))[0]
