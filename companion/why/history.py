@@ -16,7 +16,7 @@ from ..recording.writers import KEPT
 from .control import Control
 
 MOST_ROWS = 150000          # the search is cut off there: it keeps two entries a row
-# What a step costs, where one along a value costs 1. The sizes were set by looking at few programs
+# What a step costs, if one along a value costs 1. The sizes were set by looking at few programs
 # (tests/crashes/README.md); what each is for:
 ADDRESS = 12                # a dozen values come first: most addresses are of tables, lists, stacks
 OUTPUT_ADDRESS = 6          # a wrong byte is often a right one from a wrong place
@@ -28,7 +28,7 @@ OUTPUT_CONTROL = 8          # of a row of an output, which more often is the wro
 NEXT_CONTROL = 4            # of a branch: a condition of several terms is several branches
 SPARED = 4                  # the branch that spared a word of the object whose value it compared
 AWAITED = 4                 # the branch by which another hart didn't store what a loop waits for
-# How far it is asked. What is dearer than these has too many rows to tell one from another.
+# How far it is asked. What is more expensive than these has too many rows to tell one from another.
 DECIDING_ROWS = 300         # before the start: farther back other functions ran
 MOST_BRANCHES = 24          # of those; each fourth costs 1 more, so the last costs DECISION and 6
 DEAREST_CONTROL = 40        # three addresses and a few values from the start
