@@ -5,7 +5,7 @@ from __future__ import annotations
 import re
 from dataclasses import dataclass, field
 from itertools import islice
-from typing import Any, Dict, List, NamedTuple, Sequence
+from typing import Any, Dict, List, NamedTuple, Optional, Sequence
 
 from ..call.errors import MISSING, REFUSED, CompanionError
 from ..call.text import clean
@@ -78,12 +78,17 @@ def compiled(elf: Elf, line: str, texts: Sequence[str]) -> Compiled:
     unclean = next((text for text in texts if not text.strip() or not text.isprintable()), None)
     if unclean is not None:
         raise CompanionError(f"{unclean!r} is no expression", REFUSED)
-    answer = told_by_gdb(elf, line=line, expressions=list(texts))
+    return compiled_by_gdb(elf, line, texts)
+
+
+def compiled_by_gdb(elf: Elf, line: str, texts: Optional[Sequence[str]] = None) -> Compiled:
+    """Without texts the variables of the line's function."""
+    answer = told_by_gdb(elf, line=line, expressions=texts)
     if not answer.get("places"):
         raise CompanionError(f"{line} has no code: {clean(answer.get('error', 'gdb knows none'))}",
                              MISSING)
-    return Compiled(answer["places"],
-                    [Expression.of(*each) for each in zip(texts, answer["expressions"])])
+    return Compiled(answer["places"], [Expression.of(*each) for each in
+                                       zip(answer["texts"], answer["expressions"])])
 
 
 @dataclass(frozen=True)

@@ -8,7 +8,7 @@ import importlib
 import json
 import os
 import re
-from typing import Any, Iterator
+from typing import Any, Iterator, Optional
 
 gdb: Any = importlib.import_module("gdb")     # only there inside of gdb
 # Of a type
@@ -31,6 +31,8 @@ TYPE_NAME = re.compile(r"[\w \t*&:<>,()\[\]]+")        # gdb evaluates nothing o
 BEFORE_NAME = re.compile(r"[^(\[]*(?:\(\*+)*")
 ADDRESS_OF = re.compile(r"&[\s(]*([A-Za-z_]\w*)(?![\w\s]*[.\[]|\s*->)")
 EMPTY = "zelkuma_"
+PLAIN_NAME = re.compile(r"[A-Za-z_][A-Za-z0-9_]{0,60}")
+MOST_LOCALS = 12            # of a line, so many as a table has columns
 
 
 class Types:
@@ -150,14 +152,29 @@ def own_code(symbol: Any, address: int, name: str) -> dict[str, Any]:
             "result": Types().told(symbol.type.target())}
 
 
-def line(spec: str, expressions: list[str]) -> dict[str, Any]:
+def line(spec: str, expressions: Optional[list[str]]) -> dict[str, Any]:
     """The addresses at which a line begins, where gdb would stop, and what each expression is
-    there."""
+    there; without expressions, what each variable of the function is."""
     point = gdb.Breakpoint(spec, internal=True)
     found = sorted(location.address for location in point.locations)
     point.delete()
-    return {"places": found,
-            "expressions": [compiled(spec, found, each) for each in expressions] if found else []}
+    if not found:
+        return {"places": []}
+    texts = locals_at(found[0]) if expressions is None else expressions
+    return {"places": found, "texts": texts,
+            "expressions": [compiled(spec, found, each) for each in texts]}
+
+
+def locals_at(place: int) -> list[str]:
+    """The parameters and variables of the function that a place is in. An ELF file can call one
+    anything, and gdb would do what a name says in its next line."""
+    found: dict[str, None] = {}
+    block = gdb.block_for_pc(place)
+    while block is not None and not (block.is_static or block.is_global):
+        names = [symbol.name for symbol in block if symbol.is_variable or symbol.is_argument]
+        found.update((name, None) for name in names if PLAIN_NAME.fullmatch(name))
+        block = None if block.function else block.superblock
+    return list(found)[:MOST_LOCALS]
 
 
 def compiled(spec: str, places: list[int], expression: str) -> dict[str, Any]:

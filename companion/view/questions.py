@@ -1,12 +1,14 @@
-"""Histories of variables and calls of functions for the page: of those that what it tells of begins
-with."""
+"""Histories of variables, calls of functions and variables at lines for the page: of those that
+what it tells of begins with."""
 from __future__ import annotations
 
 import contextlib
 from typing import Any, Iterable, Iterator, Optional, Sequence, Union
 
 from ..call.errors import CompanionError
+from ..questions.at import Passes
 from ..questions.calls import Call, Calls, add_texts, said_arguments, said_result
+from ..questions.expressions import LINE, compiled_by_gdb
 from ..questions.functions import function_of
 from ..questions.history import History
 from ..questions.reading import Asked, read
@@ -20,10 +22,12 @@ from .data import Page
 # Are in the page at most, and so many of the last stores and calls of each
 VARIABLES = 8
 FUNCTIONS = 6
+LINES = 6
 TOLD = 40
 LARGEST = 64  # bytes of a variable that is told as a whole
 ROWS_NEAR = 60  # rows before the end
 RACES = 3  # groups of races
+MOST_LINE_ROWS = 2000000  # of a log with lines: for each the rows' registers and words are followed
 
 
 def variables_of(named: Elf, words: Iterable[int]) -> list[Variable]:
@@ -52,6 +56,17 @@ def calls_in(asked: Asked, names: Iterable[str]) -> Iterator[Calls]:
             continue
 
 
+def passes_in(asked: Asked, lines: Iterable[str]) -> Iterator[Passes]:
+    """Of lines whose functions have variables, as far as gdb tells them."""
+    if asked.log.rows() > MOST_LINE_ROWS:
+        return
+    for line in list(dict.fromkeys(filter(LINE.fullmatch, lines)))[:LINES]:
+        with contextlib.suppress(CompanionError):       # a line without code, or no gdb
+            code = compiled_by_gdb(asked.named, line)
+            if code.expressions:
+                yield Passes(asked, line, code, False, TOLD)
+
+
 def questions_data(page: Page, crash: Analysis, suspects: Sequence[Suspect],
                    races: Optional[Races]) -> dict[str, Any]:
     """Those of the words and functions that are looked at first: of suspects, of races, of the last
@@ -72,7 +87,9 @@ def questions_data(page: Page, crash: Analysis, suspects: Sequence[Suspect],
     histories = [History(asked, stacks, variable, TOLD, False)
                  for variable in variables_of(asked.named, words)]
     calls = list(calls_in(asked, functions))
-    every: list[Union[History, Calls]] = [*histories, *calls]
+    lines = [crash.places.line(rows.code_of(row).pc) for row in [crash.start, *guilty]]
+    passes = list(passes_in(asked, lines))
+    every: list[Union[History, Calls, Passes]] = [*histories, *calls, *passes]
     read(asked.chunks(), stacks, *every)
     for each in calls:
         each.finish()
@@ -80,7 +97,11 @@ def questions_data(page: Page, crash: Analysis, suspects: Sequence[Suspect],
     return {"most": TOLD, "leftOut": asked.left_out(),
             "variables": [history_data(page, found) for found in histories], "functions":
             [{"name": found.function.name, "title": found.function.title(), "calls": found.total,
-              "rows": [call_row(page, call, asked) for call in found.told]} for found in calls]}
+              "rows": [call_row(page, call, asked) for call in found.told]} for found in calls],
+            "lines": [{"line": found.line, "passes": found.total,
+                       "names": [each.text for each in found.expressions],
+                       "rows": [[entry.hart, entry.count, *entry.values] for entry in found.told]}
+                      for found in passes]}
 
 
 def history_data(page: Page, found: History) -> dict[str, Any]:

@@ -48,8 +48,8 @@ races, the fault, and the chain of values behind it.
         "--rows": "how many of the last rows are read, as for `why`",
         "--book": "draws the switches between harts, if BOOK has no more than 40, as that of "
                   "`shrink`",
-        "--with-questions": "puts histories of variables and calls of functions in, which a click "
-                            "on a word or a name opens",
+        "--with-questions": "puts histories of variables, calls of functions and variables at "
+                            "lines in, which a click on a word, a name or a line opens",
     },
     """The page is one file that needs no network and no other file. It holds names and lines of
 source of the program. Rows, intervals, Edges and races are the program's, suspects are a

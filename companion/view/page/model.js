@@ -52,7 +52,8 @@ function commas(number) {
 }
 
 function plural(number, word) {
-  return `${commas(number)} ${word}${number === 1 ? "" : "s"}`;
+  const more = word.endsWith("s") ? "es" : "s";
+  return `${commas(number)} ${word}${number === 1 ? "" : more}`;
 }
 
 function hex(number) {

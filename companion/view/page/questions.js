@@ -1,5 +1,6 @@
-/* Histories of variables and calls of functions, if the page holds them: a click on a word or a name opens them. */
-const asked = D.questions || { most: 0, variables: [], functions: [], leftOut: [] };
+/* Histories of variables, calls of functions and variables at lines, if the page holds them: a click on a word, a name or a line
+   opens them. */
+const asked = D.questions || { most: 0, variables: [], functions: [], lines: [], leftOut: [] };
 const WORD = /(?<![\w=])[0-9a-f]{8}(?=[=)]|$)/g;
 
 function variableAt(address) {
@@ -33,10 +34,19 @@ function functionName(name) {
   return found ? questionLink(name, () => showFunction(found)) : name;
 }
 
+/* FILE:LINE, which opens what its variables were. */
+function lineName(line) {
+  const found = asked.lines.find((each) => each.line === line);
+  if (!found) return line;
+  const made = questionLink(line, () => showLine(found));
+  made.classList.add("line");
+  return made;
+}
+
 function placeWithName(index) {
   const { name, line } = place(index);
   const made = document.createDocumentFragment();
-  made.append(...(name ? [functionName(name), `  ${line}`] : [line]));
+  made.append(...(name ? [functionName(name), "  ", lineName(line)] : [lineName(line)]));
   return made;
 }
 
@@ -72,11 +82,21 @@ function showFunction({ title, calls, rows }) {
   showAnswer(title, calls, "call", table, rows.length);
 }
 
+function showLine({ line, passes, names, rows }) {
+  const table = tableOf([["row", "n"], ...names.map((name) => [name])]);
+  for (const [hart, count, ...values] of rows) {
+    const row = element("tr");
+    row.append(pointCell(hart, count), ...values.map((text) => element("td", text)));
+    table.append(row);
+  }
+  showAnswer(`${line}: variables before it`, passes, "pass", table, rows.length);
+}
+
 /* What can be clicked, and how much of it the page holds. */
 function showQuestions() {
   if (!D.questions) return;
   byId("question-card").hidden = false;
-  byId("question-note").textContent = ["A click on an underlined word of memory tells who stored to it, one on a function's name its calls",
-    `The page holds ${plural(asked.variables.length, "variable")} and ${plural(asked.functions.length, "function")}, of each the last ${asked.most}`,
-    "zelkuma history and calls tell of all", ...asked.leftOut.map((said) => said.replace(/\.$/, ""))].join(". ") + ".";
+  byId("question-note").textContent = ["A click on an underlined word of memory tells who stored to it, one on a function's name its calls, one on a line its variables",
+    `The page holds ${plural(asked.variables.length, "variable")}, ${plural(asked.functions.length, "function")} and ${plural(asked.lines.length, "line")}, of each the last ${asked.most}`,
+    "zelkuma history, calls and at tell of all", ...asked.leftOut.map((said) => said.replace(/\.$/, ""))].join(". ") + ".";
 }

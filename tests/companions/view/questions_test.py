@@ -1,6 +1,7 @@
 """zelkuma view --with-questions: the page has what history and calls tell, and a click on a word or
 a name opens it."""
 import json
+import shutil
 import unittest
 
 import case
@@ -10,6 +11,7 @@ import hostile
 from case import data_of
 
 RACE = "race_settings"
+GDB = "gdb-multiarch"
 
 
 class Pages(case.Case):
@@ -37,6 +39,27 @@ class QuestionsTest(Pages):
             said = json.loads(self.says("calls", *files, function["name"], "--json"))
             self.assertEqual([row[:2] for row in function["rows"]],
                              [[each["hart"], each["count"]] for each in said["entries"]])
+
+    def test_lines_are_what_at_tells(self):
+        if not shutil.which(GDB):
+            self.skipTest(f"{GDB} isn't installed")
+        page, files = self.page("--with-questions")
+        lines = data_of(page)["questions"]["lines"]
+        self.assertGreater(len(lines), 1)
+        for line in lines:
+            with self.subTest(line["line"]):
+                said = json.loads(self.says("at", *files, line["line"], *line["names"], "--last",
+                                            "40", "--json"))
+                self.assertEqual((line["passes"], line["rows"]),
+                                 (said["passes"], [[each["hart"], each["count"], *each["values"]]
+                                                   for each in said["entries"]]))
+        self.assertGreater(sum(line["passes"] for line in lines), len(lines))
+
+    def test_without_gdb_no_line_is_told(self):
+        files = self.crash(RACE)
+        _, page, _ = common.companion("view", *files, "--with-questions",
+                                      environment={"ZELKUMA_GDB": "/nowhere/gdb"})
+        self.assertEqual(data_of(page)["questions"]["lines"], [])
 
     def test_it_is_bounded(self):
         from companion.view import questions
@@ -85,6 +108,10 @@ class ClickTest(Pages):
             self.assertRegex(text("question-said"), r"^\d+ calls?$")
             self.assertEqual(text("question-head").split("(")[0],
                              browser.run("document.querySelector('#calls .question').innerText"))
+            if browser.run("document.querySelectorAll('#rows .line').length"):
+                browser.click_on("#rows .line")
+                self.assertRegex(text("question-head"), r"^race_settings\.c:\d+: variables before it$")
+                self.assertRegex(text("question-said"), r"^\d+ pass(es)?(; these are the last 40)?$")
             for width in (1280, 800):
                 self.opened(browser, self.page("--with-questions")[0], width=width)
                 browser.run("showHistory(asked.variables[0])")
@@ -101,6 +128,7 @@ class ClickTest(Pages):
             self.opened(browser, said)
             browser.run("for (const each of asked.variables) showHistory(each)")
             browser.run("for (const each of asked.functions) showFunction(each)")
+            browser.run("for (const each of asked.lines) showLine(each)")
             self.assertEqual(browser.run("document.querySelectorAll('img, iframe, [onerror], "
                                          "[onmouseover]').length"), 0)
             self.assertGreater(browser.run("asked.variables.length + asked.functions.length"), 0)
