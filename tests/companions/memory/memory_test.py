@@ -229,6 +229,8 @@ class MemoryTest(case.Case):
     def test_blocks_and_single_rows_say_the_same(self):
         """Code that runs often is followed by functions of many rows: here of all that runs twice."""
         examples = [(self.record(name, "--seed", "1", *words), self.elf(name)) for name, *words in GOOD_EXAMPLES]
+        # In a loop of this one a pointer leads out of a global object, to bytes that are as good.
+        examples.append(common.crash("underflow_option"))
         with unittest.mock.patch.object(blocks, "HOT", 2):
             for log, elf in [(self.log(name, "b"), self.elf_of(name)) for name, *_ in TRIED] + examples:
                 with self.subTest(log):
