@@ -146,10 +146,10 @@ def sources_text():
 
 
 def names_fault():
-    """Each name of several words that a page quotes is one of the sources."""
+    """Each name of several words that a page quotes, but in a path, is one of the sources."""
     there = set(re.findall(r"\w+", sources_text()))
     words = r"[a-z0-9]+(?:_[a-z0-9]+)+|[A-Z][a-z]+(?:[A-Z][a-z]*)+"
-    quoted = quoted_by_page(rf"(?<![\w-])(?:{words})(?![\w-])")
+    quoted = quoted_by_page(rf"(?<![\w/-])(?:{words})(?![\w-])")
     return [f"{page}: {name}" for page, name in quoted if name not in there]
 
 
