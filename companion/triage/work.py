@@ -119,13 +119,13 @@ class Work:
 
     def suspect(self, task: Task) -> Answer:
         with analysed(task.log, task.elf) as facts:
-            words, error = "", first_error(facts)
+            words = ""
             if facts.shown:
                 first = facts.shown[0]
                 source = facts.own_source(first.guilty)
                 words = (f"{DID[first.kind]} {facts.own_where(first.guilty)}"
                          + (f": {source}" if source else ""))
-            return Answer(READ, words, error=error)
+            return Answer(READ, words, error=first_error(facts))
 
 
 def first_error(facts: Analysis) -> str:

@@ -103,7 +103,6 @@ class View:
         self.page = Page(crash.trace, self.places, self.log)
         self.story = story_data(story, Teller(crash.named, crash.places), self.log, crash.rows)
         self.fault = self.crash.rows.fault if crash.faulted else None
-        self.errors = MemoryErrors(crash)       # (suspects that these answer aren't shown)
         self.suspects = crash.shown[:SUSPECTS]
         self.races: Optional[Races] = None
         self.race_groups: list[dict[str, Any]] = []
@@ -175,8 +174,6 @@ class View:
 
     def no_suspect(self) -> str:
         """What is said if no row of the log stored the value."""
-        if self.crash.is_told:
-            return "None but what is told above."
         origin = list(dict.fromkeys(origin.words for origin in self.crash.origin))
         if not origin:
             return "No memory was involved: the chain ends in constants."
@@ -251,7 +248,7 @@ class View:
             notes=crash.notes + unread(crash) + crash.places.trouble(),
             fault=[self.fault.name, f"{self.fault.value:08x}"] if self.fault else None,
             about=self.about(), words=self.words(),
-            memory=self.errors.lines(), hang=self.hang(),
+            memory=MemoryErrors(crash).lines(), hang=self.hang(),
             suspects=[self.suspect(item) for item in self.suspects], noSuspect=self.no_suspect(),
             chainRows=len(history.cost) - len(history.decided), chainCut=history.cut,
             registers=[] if crash.asked else [f"{value:08x}" for value in final],

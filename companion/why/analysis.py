@@ -49,7 +49,6 @@ class Analysis(Facts):
         self.unordered = self.races.unordered()
         self.lines = self.history.lines(self.places)
         self.suspects = Ranking(self, self.history, self.unordered, recursion.suspects, loop).found
-        self.is_told = False                    # whether facts told what suspects had guessed
         self.shown = ([item for item in self.suspects if item.shown]
                       or [item for item in self.suspects if item.kind != "branch"])
         self.origin = origins(self, self.history)

@@ -5,7 +5,7 @@ from __future__ import annotations
 from typing import Any
 
 from ..call.page import Part
-from ..memory.answer import Answer, events_of
+from ..memory.answer import Answer
 from ..memory.findings import UNMAPPED
 from ..memory.memory import LARGEST_MEMORY
 from ..memory.run import run_of
@@ -14,12 +14,10 @@ from .analysis import Analysis
 
 HEAD = "MEMORY ERRORS, as they happened (`zelkuma memory` tells all)"
 TOLD = 3                    # findings: as many as suspects in brief
-# Kinds of suspects: who gave memory back that was used, or given back again, after that.
-GUESSES = "back", "twice"
 
 
 class MemoryErrors:
-    """Those of the log's rows that `why` read. Suspects that guess what a finding tells go."""
+    """Those of the log's rows that `why` read."""
 
     def __init__(self, facts: Analysis) -> None:
         self.answer = None
@@ -28,11 +26,6 @@ class MemoryErrors:
                                  [], [])
             # The fault itself is told already.
             self.answer.findings = [each for each in self.answer.findings if each.kind != UNMAPPED]
-            told = {(event.hart, pc) for each in self.answer.findings for event in events_of(each)
-                    for pc in event.pcs}
-            left = [item for item in facts.shown if item.kind not in GUESSES
-                    or (facts.rows.hart[item.guilty], facts.own_pc(item.guilty)) not in told]
-            facts.is_told, facts.shown = len(left) < len(facts.shown), left
 
     def lines(self) -> list[str]:
         """The first findings, with their callers."""

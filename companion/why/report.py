@@ -152,8 +152,6 @@ def suspect_lines(facts: Analysis, most: int) -> list[str]:
 
 
 def no_suspect(facts: Analysis) -> list[str]:
-    if facts.is_told:
-        return ["none but what is told above"]
     return [f"none: {facts.no_row} stored the value"]
 
 

@@ -313,16 +313,6 @@ class MemoryTest(case.Case):
         self.assertEqual(json.loads(self.says("why", log, elf, "--json"))["memory"][0]["calls"][0]["line"], 36)
         self.assertNotIn("MEMORY ERRORS", self.says("why", *self.crash("null_route")))
 
-    def test_suspects_that_a_finding_answers_go(self):
-        """Who gave memory back is told with what used it; of a pool that isn't known it is guessed."""
-        self.needs_addr2line()
-        for name, line in (("libc_freed_node", "take_out libc_freed_node.c:76"), ("libc_kept_pointer", "open_account libc_kept_pointer.c:51")):
-            errors, suspects = self.says("why", *self.crash(name), "--brief").split("\nSUSPECTS")
-            self.assertIn("it was given back in " + line, errors)
-            self.assertNotIn("gave the memory back in", suspects)
-            self.assertIn("  1. ", suspects)
-        self.assertIn("gave the memory back in evict freed_entry.c:70", self.says("why", *self.crash("freed_entry"), "--brief"))
-
     def test_a_fault_that_nothing_explains(self):
         """`why` tells it otherwise. It isn't told beside another finding."""
         self.needs_addr2line()
