@@ -7,7 +7,7 @@ from typing import Callable, Iterator, List, Match, Optional, Sequence, Tuple
 
 from ..recording.calls import entries_of
 from ..recording.chunks import OTHER_LINES
-from ..recording.cut import PC
+from ..recording.cut import PC, rest_of
 from ..recording.log import Interval
 from ..recording.opened import Program
 from ..recording.row import Row, parse_row
@@ -34,7 +34,7 @@ class Turn:
         self.text = text
         self.chunk = chunk
         self.place = place
-        self.what = VALUE.sub(b"", text.split(b" ", 2)[2]) if text else b""
+        self.what = VALUE.sub(b"", rest_of(text)) if text else b""
 
     @property
     def row(self) -> Optional[Row]:
@@ -46,11 +46,11 @@ class Turn:
 
     def calls(self) -> Tuple[int, ...]:
         """The places of the innermost calls over it."""
-        if not self.chunk:
+        row = self.row
+        if not self.chunk or not row:
             return ()
-        hart, count, _ = self.text.split(b" ", 2)
-        place = self.chunk.text.find(b"\n%s %s " % (hart, count), self.place)
-        return tuple(call_places(self.chunk.top(hart, place + 1), MOST_CALLERS))
+        place = self.chunk.text.find(b"\n%d %d " % (row.hart, row.ic), self.place)
+        return tuple(call_places(self.chunk.top(b"%d" % row.hart, place + 1), MOST_CALLERS))
 
     def may_store(self, word: int) -> bool:
         """Whether it can be that the row stores into a word."""

@@ -42,6 +42,11 @@ def count_of(row: bytes) -> int:
     return int(row.split(b" ", 2)[1])
 
 
+def rest_of(row: bytes) -> bytes:
+    """All that stands behind its hart and count."""
+    return row.split(b" ", 2)[2]
+
+
 def pc_of(row: bytes) -> int:
     return int(row.split(b" ", 3)[2], 16)
 

@@ -295,13 +295,15 @@ class MemoryTest(case.Case):
             self.assertEqual(program.is_plain(first), is_plain, producer)
 
     def test_a_stack_of_its_own(self):
-        """A hart that changes its stack to an array hasn't run into that."""
+        """A hart that changes its stack to an array hasn't run into that. Its end is a load where
+        nothing is mapped."""
         elf = common.path("deep.elf")
         if not self.built:
             self.skipTest("riscv64-unknown-elf-gcc isn't installed")
         source = os.path.join("tests", "companions", "lib", "programs", "deep.c")
         subprocess.run(["bash", "-c", '. examples/lib/with_names.sh && build_with_names "$@"', "-", elf, source], cwd=common.TOP, check=True)
-        self.assertEqual(self.run_of(common.record("deep", elf, "--seed", "3"), elf).findings.in_order(), [])
+        found = self.run_of(common.record("deep", elf, "--seed", "3"), elf).findings.in_order()
+        self.assertEqual([each.kind for each in found], ["unmapped-address"])
 
     def test_why_tells_it_before_its_suspects(self):
         self.needs_addr2line()
