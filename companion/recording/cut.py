@@ -43,7 +43,7 @@ def count_of(row: bytes) -> int:
 
 
 def rest_of(row: bytes) -> bytes:
-    """All that stands behind its hart and count."""
+    """What follows its hart and count."""
     return row.split(b" ", 2)[2]
 
 
