@@ -9,7 +9,7 @@ from functools import cached_property
 from typing import Any, Iterator, List, NamedTuple, Optional
 
 from .call.errors import NO_INTERVAL, CompanionError
-from .gdb.memory import Memory
+from .gdb.memory import SessionMemory
 from .gdb.session import Session, begin_session
 from .questions.at import TOLD, passes_of
 from .questions.calls import calls_of, said_arguments, said_result
@@ -147,8 +147,8 @@ class Recording:
                                                                self.asked.elf.name)))
 
     @cached_property
-    def memory(self) -> Memory:
-        return Memory(self.asked.log, self.asked.elf, self.session)
+    def memory(self) -> SessionMemory:
+        return SessionMemory(self.asked.log, self.asked.elf, self.session)
 
     def at(self, hart: int, count: int) -> State:
         """The state before a hart's instruction of a count. It takes some 90 bytes for each row on

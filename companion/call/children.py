@@ -37,7 +37,8 @@ def follow(parent: int) -> None:
 def start(words: Sequence[str], **streams: Any) -> subprocess.Popen[bytes]:
     """A process that the system kills when this one ends, also if this one is killed. Signals wait
     until it is known here."""
-    if Group.own:                               # its guard ends it, wherever this process is ended
+    # Its guard ends it, wherever this process is ended
+    if ProcessGroup.own:
         return subprocess.Popen(words, **streams)
     parent = os.getpid()
 
@@ -143,19 +144,19 @@ class Guard:
         os.close(self.pipe)
 
 
-class Group(Guard):
+class ProcessGroup(Guard):
     """Processes that end with this one. To start one of them is cheaper than by `start`, since no
     python runs in it first; so it is for many short ones."""
 
     # Which this process is in: what it starts needs no python of its own to end with it
-    own: ClassVar[Optional[Group]] = None
+    own: ClassVar[Optional[ProcessGroup]] = None
 
     def __init__(self) -> None:
         super().__init__(lambda: os.killpg(0, signal.SIGKILL))
 
     def join(self) -> None:
         os.setpgid(0, self.pid)
-        Group.own = self
+        ProcessGroup.own = self
 
     def start(self, words: Sequence[str], said: str, err: str,
               environment: Mapping[str, str]) -> Process:

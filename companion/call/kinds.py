@@ -21,13 +21,13 @@ CORE_HEAD_BYTES = 52
 PAGE_MARK = '<meta name="generator" content="zelkuma">'
 
 
-class Kind(NamedTuple):
+class FileKind(NamedTuple):
     """What a file is called, and whether a file of a name is one."""
     name: str
     fits: Callable[[str], bool]
 
 
-def text_kind(name: str, begins: str, ends: str, once: str) -> Kind:
+def text_kind(name: str, begins: str, ends: str, once: str) -> FileKind:
     """A text that begins with a pattern and ends so; `once` comes in it once."""
     head = re.compile(begins.encode())
     tail = ends.encode()
@@ -40,7 +40,7 @@ def text_kind(name: str, begins: str, ends: str, once: str) -> Kind:
             return bool(head.match(text) and text[-len(tail):] == tail and first >= 0
                         and text.find(mark, first + 1) < 0 and text.find(b"\0") < 0)
 
-    return Kind(name, fits)
+    return FileKind(name, fits)
 
 
 def is_log(name: str) -> bool:
@@ -68,10 +68,10 @@ def is_core(name: str) -> bool:
         return bool(offset + size == len(data))
 
 
-LOG = Kind("a whole log", is_log)
+LOG = FileKind("a whole log", is_log)
 # An input can be any bytes, so none is overwritten
-INPUT = Kind("an empty file", lambda _: False)
-CORE = Kind("a core file of export --core", is_core)
-TURNS = Kind("a list of turns", is_book)
+INPUT = FileKind("an empty file", lambda _: False)
+CORE = FileKind("a core file of export --core", is_core)
+TURNS = FileKind("a list of turns", is_book)
 PAGE = text_kind("a page of zelkuma", r'<!doctype html>\s*<html lang="en">\s*<head>\s*<meta '
                  r'charset="utf-8">\s*' + PAGE_MARK, "</html>\n", "<!doctype html>")

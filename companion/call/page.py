@@ -15,7 +15,7 @@ STYLE = (
     "ui-monospace,monospace}@media print{pre{white-space:pre-wrap}}")
 
 
-class Part(NamedTuple):
+class PagePart(NamedTuple):
     """A part of a report: its heading, which can be empty, and its lines."""
     heading: str
     lines: list[str]
@@ -28,7 +28,7 @@ def escaped(text: str) -> str:
     return html.escape(clean(text))
 
 
-def page(title: str, parts: Sequence[Part]) -> str:
+def page(title: str, parts: Sequence[PagePart]) -> str:
     text = ["\n".join(map(escaped, part.lines)) for part in parts]
     body = "".join(f"<h2>{escaped(part.heading)}</h2>\n<pre>{lines}</pre>\n"
                    for part, lines in zip(parts, text))

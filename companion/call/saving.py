@@ -16,7 +16,7 @@ from dataclasses import dataclass
 from typing import BinaryIO, NoReturn, Optional, Sequence, Tuple
 
 from .errors import REFUSED, UNREADABLE, UNWRITABLE, CompanionError
-from .kinds import CORE, ELF_MAGIC, Kind
+from .kinds import CORE, ELF_MAGIC, FileKind
 from .scratch import Scratch
 from .streams import uninterrupted
 
@@ -37,7 +37,7 @@ class Target:
     others  the files that the call reads, or saves beside it"""
     name: str
     path: str
-    kind: Kind
+    kind: FileKind
     others: tuple[str, ...]
 
     def refuse(self, why: str, status: int = REFUSED) -> NoReturn:
@@ -46,7 +46,7 @@ class Target:
     def check(self) -> Optional[os.stat_result]:
         """The old file, if there is one. CompanionError unless it may be overwritten."""
         for other in self.others:
-            if is_one(self.path, other):
+            if is_one_file(self.path, other):
                 self.refuse(f"it and {other} are one file")
         try:
             old = os.stat(self.path)
@@ -150,11 +150,11 @@ def save_together(files: Sequence[Tuple[Target, bytes]]) -> None:
                 place.write_in_place(io.BytesIO(data), old)
             else:
                 made.append((place, os.path.join(opened.enter_context(place.scratch()), "made")))
-                write(place, made[-1][1], data)
+                write_whole(place, made[-1][1], data)
         take_together(made)
 
 
-def write(place: Target, name: str, data: bytes) -> None:
+def write_whole(place: Target, name: str, data: bytes) -> None:
     try:
         with open(name, "wb") as file:
             file.write(data)
@@ -170,12 +170,12 @@ def take_together(files: Sequence[Tuple[Target, str]]) -> None:
 
 
 @functools.lru_cache(maxsize=None)
-def fits(kind: Kind, path: str, _what: Tuple[int, ...]) -> bool:
+def fits(kind: FileKind, path: str, _what: Tuple[int, ...]) -> bool:
     """Whether a file is of a kind. It is read whole, so of the same file this is asked once."""
     return kind.fits(path)
 
 
-def target(name: str, kind: Kind, others: Sequence[str]) -> Target:
+def target(name: str, kind: FileKind, others: Sequence[str]) -> Target:
     """A file that is to be saved later. CompanionError if it may not: nothing is done for it in
     vain. Of `others` empty names are none."""
     path = os.path.realpath(name)
@@ -186,7 +186,7 @@ def target(name: str, kind: Kind, others: Sequence[str]) -> Target:
     return found
 
 
-def is_one(path: str, other: str) -> bool:
+def is_one_file(path: str, other: str) -> bool:
     """Whether two names are one file, or would be."""
     if os.path.exists(path) and os.path.exists(other):
         return os.path.samefile(path, other)

@@ -15,10 +15,10 @@ def version() -> str:
         with open(os.path.join(os.path.dirname(PACKAGE), "VERSION"), encoding="ascii") as file:
             return file.read().strip()
     except (OSError, ValueError):
-        return installed()
+        return installed_version()
 
 
-def installed() -> str:
+def installed_version() -> str:
     if os.path.basename(PACKAGE) != "zelkuma":
         return "unknown"
     from importlib import metadata          # which no call of a repository needs

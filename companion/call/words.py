@@ -44,7 +44,7 @@ def help_of(word: str) -> Help:
     return found
 
 
-def run(words: list[str]) -> int:
+def run_word(words: list[str]) -> int:
     if not words or words[0] in ("-h", "--help", "help"):
         streams.put_lines([HEAD, *(f"    {word:<7} {help_of(word).brief}" for word in WORDS)])
         return 0 if words else REFUSED
@@ -64,7 +64,7 @@ def run(words: list[str]) -> int:
 def guarded(words: list[str]) -> int:
     """Runs a word; every way to fail is one line and a status."""
     try:
-        return run(words)
+        return run_word(words)
     except CompanionError as error:
         streams.say(advised(str(error)))
         return error.status

@@ -18,7 +18,7 @@ class Range(NamedTuple):
     length: int
 
 
-class Fills:
+class StepFills:
     """The `read` calls among the steps."""
 
     def __init__(self, steps: Steps, log: Log) -> None:

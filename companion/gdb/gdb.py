@@ -19,7 +19,7 @@ from ..questions.debugger import PACKAGE, gdb_path
 from ..recording.log import Log, asked_row
 from ..recording.opened import opened
 from ..recording.recent import FIRST_ROWS
-from .memory import Memory
+from .memory import SessionMemory
 from .packets import PacketStream
 from .questions import Questions
 from .reasons import MORE_ROWS, Reasons
@@ -103,7 +103,7 @@ def main(words: list[str]) -> int:
         session = ends_with.enter_context(closing(begin_session(log, elf_name)))
         peer = ends_with.enter_context(wait_for_gdb(port)) if port is not None else None
         ends = (peer.fileno(),) * 2 if peer else (sys.stdin.fileno(), sys.stdout.fileno())
-        server = Server(session, Memory(log, asked.elf, session),
+        server = Server(session, SessionMemory(log, asked.elf, session),
                         PacketStream(*ends, "--trace" in options),
                         Questions(log_name, elf_name, options.get("--names", "")), Reasons(log))
         with contextlib.suppress(EOFError, ConnectionError):    # gdb has left

@@ -15,7 +15,7 @@ class Pattern(NamedTuple):
     accepts: Callable[[bytes], bool]
 
 
-class Part(NamedTuple):
+class LinesPart(NamedTuple):
     """The lines [start, end), which are text[low:high]."""
     start: int
     end: int
@@ -24,7 +24,7 @@ class Part(NamedTuple):
     high: int
 
 
-class Near(NamedTuple):
+class NearPiece(NamedTuple):
     """A line whose offset is known: its piece, its number, and the offset."""
     piece: int
     number: int
@@ -65,7 +65,7 @@ class KeptLines:
         self.texts: list[bytearray] = []
         self.starts: list[int] = []
         self.count = 0
-        self.near: deque[Near] = deque(maxlen=self.NEAR)
+        self.near: deque[NearPiece] = deque(maxlen=self.NEAR)
 
     def add(self, text: bytes, count: int) -> None:
         if not self.texts or len(self.texts[-1]) > self.PIECE:
@@ -80,11 +80,11 @@ class KeptLines:
     def end_of(self, piece: int) -> int:
         return self.starts[piece + 1] if piece + 1 < len(self.starts) else self.count
 
-    def nearest(self, piece: int, number: int) -> Near:
+    def nearest(self, piece: int, number: int) -> NearPiece:
         """The known line of a piece that is the nearest."""
         known = [near for near in self.near if near.piece == piece]
-        known += [Near(piece, self.starts[piece], 0),
-                  Near(piece, self.end_of(piece), len(self.texts[piece]))]
+        known += [NearPiece(piece, self.starts[piece], 0),
+                  NearPiece(piece, self.end_of(piece), len(self.texts[piece]))]
         return min(known, key=lambda near: abs(near.number - number))
 
     def offset(self, piece: int, number: int) -> int:
@@ -99,16 +99,16 @@ class KeptLines:
         while at > number:
             offset = text.rfind(b"\n", 0, offset - 1) + 1
             at -= 1
-        self.near.append(Near(piece, at, offset))
+        self.near.append(NearPiece(piece, at, offset))
         return offset
 
-    def parts(self, start: int, end: int) -> Iterator[Part]:
+    def parts(self, start: int, end: int) -> Iterator[LinesPart]:
         """The lines [start, end), piece by piece."""
         while start < end:
             piece = self.piece_of(start)
             behind = min(end, self.end_of(piece))
-            yield Part(start, behind, self.texts[piece], self.offset(piece, start),
-                       self.offset(piece, behind))
+            yield LinesPart(start, behind, self.texts[piece], self.offset(piece, start),
+                            self.offset(piece, behind))
             start = behind
 
     def line(self, number: int) -> bytes:
@@ -141,6 +141,6 @@ class KeptLines:
                 count = part.text.count
                 number = (part.end - count(b"\n", found, part.high) if last
                           else part.start + count(b"\n", part.low, found))
-                self.near.append(Near(self.piece_of(number), number, found))
+                self.near.append(NearPiece(self.piece_of(number), number, found))
                 return number
         return None

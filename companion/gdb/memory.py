@@ -22,7 +22,7 @@ from typing import Optional
 
 from ..recording.elf import Elf
 from ..recording.log import Log
-from .fills import Fills
+from .fills import StepFills
 from .session import Session
 from .steps import Steps
 
@@ -38,7 +38,7 @@ ACCESS = re.compile(rb"\| (load|store) ([0-9a-f]{8})=([0-9a-f]{8})")
 class Future:
     """What the known steps ahead tell: the first access to each word in blocks of them."""
 
-    def __init__(self, steps: Steps, fills: Fills) -> None:
+    def __init__(self, steps: Steps, fills: StepFills) -> None:
         self.steps = steps
         self.fills = fills
         # By ends: by word, what its first access tells
@@ -83,13 +83,13 @@ class Future:
         return None
 
 
-class Memory:
+class SessionMemory:
     """Reads memory for gdb, which takes what is known from an address on."""
 
     def __init__(self, log: Log, elf: Elf, session: Session) -> None:
         self.session = session
         self.elf = elf
-        self.fills = Fills(session.steps, log)
+        self.fills = StepFills(session.steps, log)
         self.size = log.memory
         self.is_whole = log.dropped == 0
         self.future = Future(session.steps, self.fills)

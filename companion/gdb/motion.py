@@ -12,7 +12,7 @@ from ..recording.cut import pc_of
 from .lines import Pattern
 from .points import Hit, Points
 from .session import Session
-from .stops import Stop, WatchStops
+from .stops import HartStop, WatchStops
 from .target import INTERRUPTED, TRAP
 
 # Steps between two looks at gdb
@@ -37,7 +37,7 @@ class Motion:
         self.told: Optional[int] = None  # the place where a fault was reported
         self.base = 0  # where the session begins: some hart has a state
 
-    def begin(self) -> Stop:
+    def begin(self) -> HartStop:
         """Goes to the first place at which a hart has a state."""
         while not self.session.live():
             steps = self.session.next_steps(None, 1)
@@ -45,7 +45,7 @@ class Motion:
                 break
             self.session.extend(*steps)
         self.base = self.session.at
-        return Stop(self.first_hart())
+        return HartStop(self.first_hart())
 
     def first_hart(self) -> int:
         return (self.session.live() or [0])[0]
@@ -54,14 +54,15 @@ class Motion:
         """The session goes elsewhere by no move of gdb: nothing is left to tell of where it was."""
         self.told = self.watch_stops.owed = None
 
-    def before_move(self, hart: int, alone: bool, back: bool) -> Optional[Stop]:
+    def before_move(self, hart: int, alone: bool, back: bool) -> Optional[HartStop]:
         """The stop of a move that doesn't begin: gdb has asked for an interruption, or is owed a
         watchpoint."""
         if self.is_interrupted():
-            return Stop(hart, INTERRUPTED)
+            return HartStop(hart, INTERRUPTED)
         return self.watch_stops.due(hart, alone, back)
 
-    def met(self, start: int, end: int, first_break: int, only: Optional[int]) -> Optional[Stop]:
+    def met(self, start: int, end: int, first_break: int,
+            only: Optional[int]) -> Optional[HartStop]:
         """Goes to the first stop in steps that were taken, and returns it."""
         hit = self.points.next_break(first_break, end, only=only)
         access = self.points.next_watch(start, end if hit is None else hit.place, only=only)
@@ -70,21 +71,21 @@ class Motion:
             return self.watch_stops.at_access(access, False)
         if hit is not None:
             self.session.go_to(hit.place)
-            return Stop(hit.hart)
+            return HartStop(hit.hart)
         return None
 
-    def ends_here(self, hart: int, alone: bool) -> Stop:
+    def ends_here(self, hart: int, alone: bool) -> HartStop:
         """The stop where nothing is left: a fault, once, and then the end."""
         for stopped in [hart] if alone else self.session.live():
             signal = self.session.fault_signal(stopped)
             if signal and self.told != self.session.at:
                 self.told = self.session.at
-                return Stop(stopped, signal)
-        return Stop(hart, TRAP, END, alone)
+                return HartStop(stopped, signal)
+        return HartStop(hart, TRAP, END, alone)
 
     # Forward
 
-    def go(self, hart: int, alone: bool) -> Stop:
+    def go(self, hart: int, alone: bool) -> HartStop:
         """All harts continue, this one first; or this one alone, and what it waits for."""
         session = self.session
         only = hart if alone else None
@@ -108,16 +109,16 @@ class Motion:
             session.extend(*steps)
             chunk = min(LARGEST_CHUNK, chunk * 2)
             if self.is_interrupted():
-                return Stop(hart, INTERRUPTED)
+                return HartStop(hart, INTERRUPTED)
 
-    def step(self, hart: int, alone: bool, low: int = 0, high: int = 0) -> Stop:
+    def step(self, hart: int, alone: bool, low: int = 0, high: int = 0) -> HartStop:
         """A hart takes one row, or rows while its pc is in [low, high); others what it waits
         for."""
         session = self.session
         only = hart if alone else None
         moved = 0
         if self.watch_stops.is_stepped_over(False):
-            return Stop(hart)
+            return HartStop(hart)
         stop = self.before_move(hart, alone, False)
         if stop:
             return stop
@@ -134,9 +135,9 @@ class Motion:
                 return stop
             if left is not None:
                 session.go_to(left)
-                return Stop(hart)
+                return HartStop(hart)
             if self.is_interrupted():
-                return Stop(hart, INTERRUPTED)
+                return HartStop(hart, INTERRUPTED)
         return self.ends_here(hart, True)
 
     def leaves(self, hart: int, start: int, low: int, high: int) -> Optional[int]:
@@ -154,12 +155,12 @@ class Motion:
 
     # Back
 
-    def step_back(self, hart: int, alone: bool) -> Stop:
+    def step_back(self, hart: int, alone: bool) -> HartStop:
         """Goes back over a hart's latest row, and over what the others did since."""
         at = self.session.at
         only = hart if alone else None
         if self.watch_stops.is_stepped_over(True):
-            return Stop(hart)
+            return HartStop(hart)
         stop = self.before_move(hart, alone, True)
         if stop:
             return stop
@@ -172,7 +173,7 @@ class Motion:
             hit = Hit(place, hart)
         return self.back_to(hit, self.points.next_watch(low, at, True, only), hart)
 
-    def go_back(self, hart: int) -> Stop:
+    def go_back(self, hart: int) -> HartStop:
         """All harts go back, up to a stop or to the session's beginning."""
         at = self.session.at
         stop = self.before_move(hart, False, True)
@@ -181,11 +182,11 @@ class Motion:
         return self.back_to(self.points.next_break(self.base, at, True),
                              self.points.next_watch(self.base, at, True), hart)
 
-    def back_to(self, hit: Optional[Hit], access: Optional[int], hart: int) -> Stop:
+    def back_to(self, hit: Optional[Hit], access: Optional[int], hart: int) -> HartStop:
         """Goes to the later of a breakpoint's place and the one behind an access."""
         self.told = None
         if access is not None and (hit is None or access + 1 > hit.place):
             self.session.go_to(access + 1)
             return self.watch_stops.at_access(access, True)
         self.session.go_to(self.base if hit is None else hit.place)
-        return Stop(hart, TRAP, BEGIN) if hit is None else Stop(hit.hart)
+        return HartStop(hart, TRAP, BEGIN) if hit is None else HartStop(hit.hart)

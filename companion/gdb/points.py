@@ -4,7 +4,7 @@ from __future__ import annotations
 from typing import Iterator, NamedTuple, Optional
 
 from ..recording.cut import hart_of, operation_of, pc_of
-from .fills import Fills
+from .fills import StepFills
 from .lines import Pattern
 from .steps import Steps
 
@@ -48,7 +48,7 @@ def touches(line: bytes, watch: Watch) -> bool:
 class Points:
     """What is set. Setting a point twice, or taking out one that isn't set, changes nothing."""
 
-    def __init__(self, steps: Steps, fills: Fills) -> None:
+    def __init__(self, steps: Steps, fills: StepFills) -> None:
         self.steps = steps
         self.fills = fills
         self.breaks: set[int] = set()

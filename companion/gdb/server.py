@@ -8,14 +8,14 @@ from typing import Callable, Optional
 from ..call.errors import CompanionError
 from ..recording.log import At, asked_row
 from . import target
-from .memory import Memory
+from .memory import SessionMemory
 from .motion import BEGIN, END, Motion
 from .packets import PACKET_SIZE, PacketStream
 from .points import Points
 from .questions import WORDS, Questions
 from .reasons import READ_ONLY, Reasons
 from .session import Session
-from .stops import Stop, WatchStops
+from .stops import HartStop, WatchStops
 from .threads import Threads
 
 REFUSED = "E01"
@@ -36,18 +36,18 @@ MONITOR_HELP = ("monitor where: the next count and address of each hart\n"
 PIECE = PACKET_SIZE // 4  # bytes of a long answer to `monitor` that go at once
 
 
-def number_of(text: str) -> int:
+def hex_number(text: str) -> int:
     if not re.fullmatch("[0-9a-fA-F]+", text):  # int() takes signs and underscores too
         raise ValueError(text)
     return int(text, 16)
 
 
-def numbers_of(text: str) -> tuple[int, int]:
+def hex_numbers(text: str) -> tuple[int, int]:
     first, second = text.split(",")
-    return number_of(first), number_of(second)
+    return hex_number(first), hex_number(second)
 
 
-def words_of(text: str) -> list[str]:
+def shell_words(text: str) -> list[str]:
     """As a shell splits it: an expression has spaces. A quote without its end is a letter."""
     try:
         return shlex.split(text)
@@ -58,8 +58,8 @@ def words_of(text: str) -> list[str]:
 class Server:
     """One session with gdb."""
 
-    def __init__(self, session: Session, memory: Memory, stream: PacketStream, questions: Questions,
-                 reasons: Reasons) -> None:
+    def __init__(self, session: Session, memory: SessionMemory, stream: PacketStream,
+                 questions: Questions, reasons: Reasons) -> None:
         self.session = session
         self.memory = memory
         self.stream = stream
@@ -126,7 +126,7 @@ class Server:
         return OK
 
     def description(self, text: str) -> str:
-        offset, length = numbers_of(text)
+        offset, length = hex_numbers(text)
         piece = target.DESCRIPTION[offset:offset + length]
         return ("m" if offset + length < len(target.DESCRIPTION) else "l") + piece
 
@@ -136,14 +136,14 @@ class Server:
                 else target.unknown_in_hex(len(target.REGISTERS)))
 
     def register(self, text: str) -> str:
-        number = number_of(text)
+        number = hex_number(text)
         values = self.session.registers(self.threads.shown)
         if number >= len(target.REGISTERS):
             return REFUSED
         return target.words_in_hex([values[number]]) if values else target.unknown_in_hex(1)
 
     def read_memory(self, text: str) -> str:
-        address, length = numbers_of(text)
+        address, length = hex_numbers(text)
         found = self.memory.read(address, min(length, MOST_BYTES))
         if length and not found:
             self.reasons.say_unknown(address, length)
@@ -164,10 +164,10 @@ class Server:
 
     def change_point(self, is_set: bool, text: str) -> str:
         kind, place = text.split(";")[0].split(",", 1)
-        return OK if self.points.change(is_set, kind, *numbers_of(place)) else UNSUPPORTED
+        return OK if self.points.change(is_set, kind, *hex_numbers(place)) else UNSUPPORTED
 
     def monitor(self, text: str) -> str:
-        words = words_of(bytes.fromhex(text).decode())
+        words = shell_words(bytes.fromhex(text).decode())
         if words == ["moved"]:
             said = self.moved
             self.moved = ""
@@ -202,7 +202,7 @@ class Server:
 
     # What moves
 
-    def stopped(self, stop: Stop) -> str:
+    def stopped(self, stop: HartStop) -> str:
         """What gdb is told of a stop; its thread is then the one that is shown."""
         hart = stop.hart if self.session.pc(stop.hart) is not None else self.motion.first_hart()
         self.threads.shown = hart
@@ -211,7 +211,7 @@ class Server:
         self.last_stop = f"T{stop.signal:02x}{stop.detail}{place}thread:{hart + 1:x};"
         return self.last_stop
 
-    def moved_to(self, stop: Stop) -> str:
+    def moved_to(self, stop: HartStop) -> str:
         """The same of a move, which gdb waits for: at an end it is told why."""
         said = ""
         if stop.detail == BEGIN:
@@ -234,7 +234,7 @@ class Server:
             if word[:1] in ("s", "S"):
                 return self.moved_to(self.motion.step(hart, alone))
             if word[:1] == "r":
-                low, high = numbers_of(word[1:])
+                low, high = hex_numbers(word[1:])
                 return self.moved_to(self.motion.step(hart, alone, low, high))
             if word[:1] in ("c", "C"):
                 return self.moved_to(self.motion.go(hart, alone))
@@ -255,7 +255,7 @@ class Server:
         self.stopped(self.motion.begin())
         if place:
             self.session.go_to_row(place)
-            self.stopped(Stop(place.hart))
+            self.stopped(HartStop(place.hart))
         elif at_end:
             self.stopped(self.motion.go(self.threads.shown, False))
 
@@ -264,7 +264,7 @@ class Server:
         self.session.go_to(self.motion.base)
         self.motion.leave()
         self.is_killed = False
-        return self.stopped(Stop(self.motion.first_hart()))
+        return self.stopped(HartStop(self.motion.first_hart()))
 
     def serve(self) -> None:
         while True:

@@ -15,7 +15,7 @@ from .session import Session
 from .target import TRAP
 
 
-class Stop(NamedTuple):
+class HartStop(NamedTuple):
     """Which hart has stopped, by which of gdb's signals, what more gdb is told, and whether this
     hart was resumed alone."""
     hart: int
@@ -34,7 +34,7 @@ class Owed(NamedTuple):
     is_stepped_over: bool = False
 
 
-def split(watches: list[Watch]) -> tuple[Watch, list[Watch]]:
+def split_watches(watches: list[Watch]) -> tuple[Watch, list[Watch]]:
     """Of watchpoints that one access met: the one whose address is told, so that the fewest are
     left, and those that are left."""
     def left(told: Watch) -> list[Watch]:
@@ -53,7 +53,7 @@ class WatchStops:
         self.read = read
         self.owed: Optional[Owed] = None
 
-    def at_access(self, place: int, back: bool) -> Stop:
+    def at_access(self, place: int, back: bool) -> HartStop:
         """The stop at an access: before it, or behind it on the way back."""
         hart = self.session.steps.hart_at(place)
         behind = place if back else place + 1
@@ -74,10 +74,10 @@ class WatchStops:
         return [watch for watch, before, after in zip(watches, *values)
                 if watch.kind != WRITTEN or before != after] or watches
 
-    def tell(self, owed: Owed) -> Stop:
-        told, rest = split(owed.watches)
+    def tell(self, owed: Owed) -> HartStop:
+        told, rest = split_watches(owed.watches)
         self.owed = owed._replace(watches=rest)
-        return Stop(owed.hart, TRAP, f"{WATCH_KINDS[told.kind][0]}:{told.first:x};")
+        return HartStop(owed.hart, TRAP, f"{WATCH_KINDS[told.kind][0]}:{told.first:x};")
 
     def is_stepped_over(self, back: bool) -> bool:
         """Whether a step is gdb's over a stop that told what was owed: it doesn't move."""
@@ -87,7 +87,7 @@ class WatchStops:
         self.owed = owed._replace(is_stepped_over=False)
         return True
 
-    def due(self, hart: int, alone: bool, back: bool) -> Optional[Stop]:
+    def due(self, hart: int, alone: bool, back: bool) -> Optional[HartStop]:
         """The stop of a move that doesn't begin, since watchpoints are owed at this place."""
         owed = self.owed
         at = self.session.at

@@ -4,10 +4,10 @@ from __future__ import annotations
 from typing import Optional
 
 from .checks import Checks
-from .judge import Access
+from .judge import JudgedAccess
 from .operation import Operation
 from .parts import Limit
-from .state import ENDED, GOOD, SAVED, ZEROS, Act, Hart, Thing, nothing, value_of
+from .state import ENDED, GOOD, SAVED, ZEROS, Act, CheckedHart, Thing, nothing, value_of
 from .sums import frame_thing
 from .value import ABSOLUTE
 from .value import FRAME as IN_FRAME
@@ -26,7 +26,7 @@ def is_bad(size: int, register: int) -> str:
 
 
 class Accesses:
-    def __init__(self, checks: Checks, hart: Hart) -> None:
+    def __init__(self, checks: Checks, hart: CheckedHart) -> None:
         self.checks = checks
         self.hart = hart
 
@@ -109,7 +109,8 @@ class Accesses:
             bits = 0
             if (states[address:address + size] != zeros
                     or thing is not None and (address < thing.low or address + size > thing.high)):
-                bits = checks.judge.load(Access(hart, row, one, address, size, False, rs), thing)
+                bits = checks.judge.load(JudgedAccess(hart, row, one, address, size, False, rs),
+                                         thing)
             if rd:
                 tags[rd] = words[address >> 2] if is_word and not bits else None
                 rows[rd] = row
@@ -204,7 +205,7 @@ class Accesses:
             thing = tags[rs] if limit is None else limit(hart, address)
             if (states[address:address + size] != zeros
                     or thing is not None and (address < thing.low or address + size > thing.high)):
-                checks.judge.store(Access(hart, row, one, address, size, True, rs), thing)
+                checks.judge.store(JudgedAccess(hart, row, one, address, size, True, rs), thing)
             words[address >> 2] = tag = tags[rs2] if is_word else None
             if sorts[address >> 2]:
                 return checks.pointers.stored(hart, one, row, address, tag)
@@ -233,7 +234,7 @@ class Accesses:
                 old = words[address >> 2]
                 if (states[address:address + 4] != ZEROS[4]
                         or thing is not None and not thing.holds(address, 4)):
-                    access = Access(hart, row, one, address, 4, stores, one.rs1)
+                    access = JudgedAccess(hart, row, one, address, 4, stores, one.rs1)
                     (checks.judge.store(access, thing) if stores
                      else checks.judge.load(access, thing))
                 if stores:
@@ -252,6 +253,6 @@ def stored(register: int, is_word: bool) -> str:
     return f"words[place >> 2] = {f'tags[{register}]' if is_word else None}"
 
 
-def no_limit(_: Hart, __: int) -> Optional[Thing]:
+def no_limit(_: CheckedHart, __: int) -> Optional[Thing]:
     """Of an access of which nothing is known but the state of its bytes."""
     return None

@@ -8,11 +8,11 @@ from __future__ import annotations
 from typing import Dict, Optional
 
 from .accesses import Accesses
-from .calls import Calls
+from .calls import AllocatorCalls
 from .checks import Checks
-from .judge import Access
+from .judge import JudgedAccess
 from .operation import Operation
-from .state import Act, Hart, nothing
+from .state import Act, CheckedHart, nothing
 from .sums import Sums
 from ..recording.cut import pc_of, word_of
 from ..recording.instruction import A0, ALU, AMO, CALL, JUMP, LOAD, SP, STORE
@@ -28,7 +28,7 @@ class Actions(Dict[bytes, Act]):
     careful  those while a register has bits that nobody wrote
     begin    where rows have their address, of those that are read now"""
 
-    def __init__(self, checks: Checks, hart: Hart) -> None:
+    def __init__(self, checks: Checks, hart: CheckedHart) -> None:
         super().__init__()
         self.checks = checks
         self.hart = hart
@@ -36,7 +36,7 @@ class Actions(Dict[bytes, Act]):
         self.begin = 0
         sums = Sums(checks, hart)
         accesses = Accesses(checks, hart)
-        calls = Calls(checks, hart)
+        calls = AllocatorCalls(checks, hart)
         self.makers = {LOAD: accesses.of_load, STORE: accesses.of_store, AMO: accesses.of_atomic,
                        JUMP: calls.of_jump, CALL: calls.of_system_call}
         self.sums = sums
@@ -99,7 +99,7 @@ class Actions(Dict[bytes, Act]):
         if not is_access:
             return
         address = int(row[-8:], 16)
-        access = Access(hart, row, one, address, one.width, one.kind != LOAD, one.rs1)
+        access = JudgedAccess(hart, row, one, address, one.width, one.kind != LOAD, one.rs1)
         thing = hart.tags[one.rs1]
         if thing is not None and not thing.holds(address, one.width):
             checks.judge.outside(access, thing)

@@ -8,7 +8,7 @@ from ..recording.answers import LONGEST, place_of
 from ..recording.places import Places
 from .findings import UNINITIALIZED, Finding
 from .leaks import Leak
-from .run import Run
+from .run import CheckedRun
 from .state import Event
 
 TOLD = 10  # findings that the text tells
@@ -20,10 +20,11 @@ LOST = ("The log lost its beginning: of what was taken, "
         "written or called before its first row nothing is said.")
 
 
-class Answer:
+class MemoryAnswer:
     """What was found, in names and lines. `notes` are lines on what wasn't read."""
 
-    def __init__(self, run: Run, places: Places, notes: Sequence[str], leaks: List[Leak]) -> None:
+    def __init__(self, run: CheckedRun, places: Places, notes: Sequence[str],
+                 leaks: List[Leak]) -> None:
         self.run = run
         self.places = places
         self.program = run.program

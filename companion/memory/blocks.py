@@ -21,7 +21,7 @@ VARIED = "sc"               # has less to tell if it fails; so has a system call
 Block = Callable[[bytes, int], int]
 
 
-class Blocks(Dict[bytes, Block]):
+class CompiledBlocks(Dict[bytes, Block]):
     """{address and word of an instruction: what takes the rows of a text from a place on, as far as
     straight code goes, and gives the place behind them}, of a hart. It stops early behind a row
     that changes how the next one is looked at."""
@@ -110,7 +110,7 @@ class Blocks(Dict[bytes, Block]):
             row = f"text[at + {begin}:at + {end}]"
             told = self.actions.hart.texts.get(act)
             begin = end + 1
-            calls = [*written(last), f"if act{at}({row}):", f"    return at + {begin}"]
+            calls = [*written_rows(last), f"if act{at}({row}):", f"    return at + {begin}"]
             if told is None and act is not nothing:
                 yield from calls
                 last = {}
@@ -123,8 +123,8 @@ class Blocks(Dict[bytes, Block]):
                     yield does
                 if one.rd:
                     last[one.rd] = row
-        yield from written(last)
+        yield from written_rows(last)
 
 
-def written(last: Dict[int, str]) -> List[str]:
+def written_rows(last: Dict[int, str]) -> List[str]:
     return [f"written[{register}] = {row}" for register, row in last.items()]

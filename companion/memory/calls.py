@@ -4,16 +4,16 @@ from __future__ import annotations
 from typing import Optional
 
 from .checks import Checks
-from .judge import Access
+from .judge import JudgedAccess
 from .operation import Operation
 from .state import (
-    BESIDE, CODE, FREED, GOOD, SAVED, UNDEFINED, ZEROS, Act, Hart, Thing, nothing, value_of)
+    BESIDE, CODE, FREED, GOOD, SAVED, UNDEFINED, ZEROS, Act, CheckedHart, Thing, nothing, value_of)
 from ..recording.instruction import A0, A1, A7
 from ..recording.log import FAILED, READ_CALL, WRITE_CALL
 
 
-class Calls:
-    def __init__(self, checks: Checks, hart: Hart) -> None:
+class AllocatorCalls:
+    def __init__(self, checks: Checks, hart: CheckedHart) -> None:
         self.checks = checks
         self.hart = hart
 
@@ -63,14 +63,14 @@ class Calls:
             if (buffer is not None and result is not None and 0 < result < FAILED
                     and buffer + result <= checks.memory.size):
                 if number == READ_CALL:
-                    self.read(Access(hart, row, one, buffer, result, True, A1))
+                    self.read(JudgedAccess(hart, row, one, buffer, result, True, A1))
                 elif number == WRITE_CALL:
-                    self.write(Access(hart, row, one, buffer, result, False, A1))
+                    self.write(JudgedAccess(hart, row, one, buffer, result, False, A1))
             hart.tags[A0] = None
             hart.rows[A0] = None if result is None else row
         return act
 
-    def clip(self, access: Access) -> Optional[Thing]:
+    def clip(self, access: JudgedAccess) -> Optional[Thing]:
         """The thing out of which a call's bytes lead; told if there is one."""
         thing = access.hart.tags[A1]
         if thing is not None and not thing.holds(access.address, access.size):
@@ -81,7 +81,7 @@ class Calls:
             return thing
         return None
 
-    def read(self, access: Access) -> None:
+    def read(self, access: JudgedAccess) -> None:
         """A `read` call fills bytes."""
         memory = self.checks.memory
         end = access.address + access.size
@@ -98,7 +98,7 @@ class Calls:
         if CODE in self.checks.pointers.sorts[access.address >> 2:(end + 3) >> 2]:
             self.checks.forget_code()
 
-    def write(self, access: Access) -> None:
+    def write(self, access: JudgedAccess) -> None:
         """A `write` call takes bytes."""
         self.clip(access)
         states = self.checks.memory.states[access.address:access.address + access.size]

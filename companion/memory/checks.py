@@ -4,16 +4,16 @@ from __future__ import annotations
 from typing import Callable, Mapping
 
 from ..recording.log import Log
-from .facts import Facts
+from .facts import RegisterFacts
 from .findings import Findings
 from .heap import Heap, Hook
 from .judge import Judge
 from .operation import Operation
 from .parts import Parts
 from .pointers import PointerWords
-from .program import Program
-from .stacks import Stacks
-from .state import CODE, Hart, Memory
+from .program import CheckedProgram
+from .stacks import CheckedStacks
+from .state import CODE, CheckedHart, TaggedMemory
 from .undefined import UndefinedBits
 
 
@@ -24,19 +24,19 @@ class Checks:
     copies   the first address of memcpy, if it isn't memmove as well
     renew    what forgets a hart's functions of instructions, once the code of one was changed"""
 
-    def __init__(self, log: Log, program: Program, hooks: Mapping[int, Hook]) -> None:
+    def __init__(self, log: Log, program: CheckedProgram, hooks: Mapping[int, Hook]) -> None:
         self.renew: list[Callable[[], None]] = []
         firsts = log.first_intervals()
         self.program = program
-        self.facts = Facts(program)
-        self.memory = Memory(log.memory)
+        self.facts = RegisterFacts(program)
+        self.memory = TaggedMemory(log.memory)
         self.findings = Findings()
         is_begun = all(one.start == 0 for one in firsts.values())
         self.is_whole = is_begun and not log.dropped and not log.unread
-        self.harts = [Hart(number, firsts[number].registers if number in firsts else ())
+        self.harts = [CheckedHart(number, firsts[number].registers if number in firsts else ())
                       for number in range(log.harts)]
         self.heap = Heap(program, self.memory, self.findings, hooks, self.is_whole)
-        self.stacks = Stacks(program, self.memory, self.heap, self.findings, self.harts)
+        self.stacks = CheckedStacks(program, self.memory, self.heap, self.findings, self.harts)
         self.pointers = PointerWords(program, self.memory, self.findings, self.forget_code)
         self.judge = Judge(self.facts, self.memory, self.heap, self.findings)
         self.undefined = UndefinedBits(self.judge)

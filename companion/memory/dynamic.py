@@ -10,9 +10,9 @@ from typing import Callable, Optional, Tuple
 
 from ..recording.cut import count_of
 from ..recording.instruction import ALU, BRANCH, JUMP
-from .facts import Facts
+from .facts import RegisterFacts
 from .operation import Operation
-from .state import Asked, Hart, value_of
+from .state import AskedMemory, CheckedHart, value_of
 
 ROUNDED = 16                # bytes: sp is a multiple of it
 ADDED = ROUNDED - 1         # to a size
@@ -20,7 +20,7 @@ SPARED = 8                  # of an alignment: sp is a multiple of it for certai
 REACH = 16                  # instructions between the sum and the use of its result
 
 
-def writer(facts: Facts, before: int, register: int) -> Optional[Operation]:
+def writer(facts: RegisterFacts, before: int, register: int) -> Optional[Operation]:
     """The instruction that made what a register has there, in straight code without a call."""
     for pc in range(before - 4, before - 4 * REACH - 4, -4):
         one = facts.operations.get(pc)
@@ -29,7 +29,8 @@ def writer(facts: Facts, before: int, register: int) -> Optional[Operation]:
     return None
 
 
-def aligned_from(facts: Facts, one: Optional[Operation], bits: int) -> Optional[Tuple[int, int]]:
+def aligned_from(facts: RegisterFacts, one: Optional[Operation],
+                 bits: int) -> Optional[Tuple[int, int]]:
     """The place and the register whose value an instruction has without its lowest bits; None if
     it's another one."""
     if one is not None and one.name == "andi" and one.imm == -1 << bits:
@@ -41,7 +42,7 @@ def aligned_from(facts: Facts, one: Optional[Operation], bits: int) -> Optional[
     return None
 
 
-def is_aligned_down(facts: Facts, one: Operation) -> bool:
+def is_aligned_down(facts: RegisterFacts, one: Operation) -> bool:
     """Whether two shifts clear the lowest bits of a pointer: by the first one it is none, but
     nothing is done with that."""
     if one.name == "slli":
@@ -51,7 +52,7 @@ def is_aligned_down(facts: Facts, one: Operation) -> bool:
                 and (following.rs1, following.imm) == (one.rd, one.imm))
 
 
-def sum_of_size(facts: Facts, one: Operation) -> Optional[Operation]:
+def sum_of_size(facts: RegisterFacts, one: Operation) -> Optional[Operation]:
     """The sum of the size and what is added to it, for an instruction that takes the result from
     sp."""
     rounded = aligned_from(facts, writer(facts, one.pc, one.rs2), 4)
@@ -65,7 +66,7 @@ def is_sum(one: Operation) -> bool:
                                    or alignment >= ROUNDED and alignment & alignment - 1 == 0)
 
 
-def becomes_size(facts: Facts, one: Operation) -> bool:
+def becomes_size(facts: RegisterFacts, one: Operation) -> bool:
     """Whether a sum is the one of a size."""
     if not is_sum(one):
         return False
@@ -74,25 +75,26 @@ def becomes_size(facts: Facts, one: Operation) -> bool:
     return takes is not None and sum_of_size(facts, takes) is one
 
 
-def size_asked(facts: Facts, one: Operation) -> Optional[Callable[[Hart, bytes], Asked]]:
+def size_asked(facts: RegisterFacts,
+               one: Operation) -> Optional[Callable[[CheckedHart, bytes], AskedMemory]]:
     """What gives the memory that a row asks for; None if an instruction asks for none. Of a size
     that nothing tells to the byte all that sp was moved by counts."""
     if not one.takes_memory:
         return None
     added = sum_of_size(facts, one)
 
-    def asked(hart: Hart, row: bytes) -> Asked:
+    def asked(hart: CheckedHart, row: bytes) -> AskedMemory:
         new = value_of(row)
         whole = hart.sp - new
         if (added is not None and hart.asking
                 and count_of(row) - count_of(hart.asking) == (one.pc - added.pc) // 4):
             exact = value_of(hart.asking) - ADDED
             whole = exact if whole - ROUNDED < exact <= whole else whole
-        return Asked(new, whole)
+        return AskedMemory(new, whole)
     return asked
 
 
-def pointer_to(facts: Facts, one: Operation) -> Tuple[int, int]:
+def pointer_to(facts: RegisterFacts, one: Operation) -> Tuple[int, int]:
     """How far behind sp the memory begins to which an instruction makes a pointer, before that is
     rounded up; and to which multiple it is."""
     added = one.imm

@@ -8,9 +8,9 @@ from typing import Hashable, NamedTuple, Optional
 
 from ..recording.instruction import A0, ALU, JUMP, LOAD, SP, STORE
 from .operation import CALLEE_SAVED, CALLER_SAVED, GP, T0, Operation
-from .program import LONGEST_FUNCTION, Function, Program
-from .value import (ABSOLUTE, ENTRY, FRAME, NUMBER, POINTER, UNKNOWN, WILD, State, Value, added,
-                    meet, mixed, moved, multiplied, subtracted)
+from .program import LONGEST_FUNCTION, CheckedFunction, CheckedProgram
+from .value import (ABSOLUTE, ENTRY, FRAME, NUMBER, POINTER, UNKNOWN, WILD, State, Value,
+                    sum_of_values, meet, mixed, moved_value, multiplied, subtracted)
 
 SAVE = "__riscv_save_"      # functions of -msave-restore, that make their caller's frame
 STEPS_EACH = 200            # steps for each instruction of a function, at most: some 10 are usual
@@ -23,13 +23,13 @@ class Edge(NamedTuple):
     to: int
 
 
-class Facts:
+class RegisterFacts:
     """operations   {address: instruction} of functions that were analysed
     slots        {first address of a function: {offset from the frame's begin: the register that it
                  saves there}}
     changed      functions whose code isn't the file's, of which nothing is known"""
 
-    def __init__(self, program: Program) -> None:
+    def __init__(self, program: CheckedProgram) -> None:
         self.program = program
         self.operations: dict[int, Operation] = {}
         # {(address, word): instruction that ran}
@@ -48,7 +48,7 @@ class Facts:
         if function.first not in self.slots:
             self.slots[function.first] = {}
             if function.end - function.first <= LONGEST_FUNCTION:
-                Flow(self, function).run()
+                FunctionFlow(self, function).run()
         found = self.operations.get(pc)
         if found is None or found.word != word:
             if found is not None:
@@ -57,7 +57,7 @@ class Facts:
         self.kept[pc, word] = found
         return found
 
-    def forget(self, function: Function) -> None:
+    def forget(self, function: CheckedFunction) -> None:
         """Its code was changed while it ran."""
         self.changed.add(function.first)
         self.kept.clear()
@@ -74,9 +74,9 @@ class Facts:
         if one.name == "lui":
             return Value(ABSOLUTE, one.imm)
         if one.name == "addi":
-            return moved(base, one.imm) if one.rs1 else Value(NUMBER, one.imm)
+            return moved_value(base, one.imm) if one.rs1 else Value(NUMBER, one.imm)
         if one.name == "add":
-            return added(base, other)
+            return sum_of_values(base, other)
         if one.name == "sub":
             return subtracted(base, other)
         if one.name == "slli":
@@ -100,10 +100,10 @@ class Facts:
         return Value(POINTER, 0, False, kind) if kind else None
 
 
-class Flow:
+class FunctionFlow:
     """The states of one function."""
 
-    def __init__(self, facts: Facts, function: Function) -> None:
+    def __init__(self, facts: RegisterFacts, function: CheckedFunction) -> None:
         self.facts = facts
         self.program = facts.program
         self.function = function
@@ -214,14 +214,14 @@ class Flow:
         elif one.kind == STORE:
             key = self.slot(one.base, one.imm)
             if key is not None:
-                put(state, key, one.other if one.width == 4 else None)
+                put_value(state, key, one.other if one.width == 4 else None)
         elif one.rd:
             # (behind memory that a function asks for on its stack the frame's places aren't told by
             # sp)
             known = None
             if not one.takes_memory:
                 known = self.facts.result(one) if one.kind == ALU else self.loaded(one, state)
-            put(state, one.rd, known)
+            put_value(state, one.rd, known)
 
     def loaded(self, one: Operation, state: State) -> Optional[Value]:
         if one.kind != LOAD or one.width != 4 or one.base is None:
@@ -250,7 +250,7 @@ class Flow:
         if one.rd == T0 and name.startswith(SAVE):
             count = int(name[len(SAVE):]) if name[len(SAVE):].isdigit() else 0
             size = 16 * (1 + (count >= 4) + (count >= 8) + (count >= 12))
-            put(state, SP, moved(state.get(SP), -size))
+            put_value(state, SP, moved_value(state.get(SP), -size))
             return
         for register in CALLER_SAVED:
             state.pop(register, None)
@@ -276,7 +276,7 @@ class Flow:
                     one.saves = True
 
 
-def put(state: State, key: Hashable, value: Optional[Value]) -> None:
+def put_value(state: State, key: Hashable, value: Optional[Value]) -> None:
     """Sets what is known of a register or a word; of nothing known there is no entry."""
     if value is None or value == UNKNOWN:
         state.pop(key, None)

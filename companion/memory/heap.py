@@ -13,10 +13,10 @@ from ..recording.dwarf import PARAMETER, POINTER
 from ..recording.instruction import A0, RA
 from .findings import NO_BLOCK, TWICE, Finding, Findings
 from .operation import FULL
-from .program import Program
+from .program import CheckedProgram
 from .state import (
     BESIDE, BLOCK, FREED, FRAME, GLOBAL, GOOD, NULL, UNDEFINED, UNWRITTEN, Awaited, Event,
-    Hart, Memory, Thing)
+    CheckedHart, TaggedMemory, Thing)
 
 TAKES = "takes"
 CLEARS = "takes cleared"
@@ -53,7 +53,8 @@ class Hook(NamedTuple):
     is_standard: bool = True
 
 
-def hooks_of(program: Program, takes: Sequence[str], gives: Sequence[str]) -> Dict[int, Hook]:
+def hooks_of(program: CheckedProgram, takes: Sequence[str],
+             gives: Sequence[str]) -> Dict[int, Hook]:
     """{first address: hook} of C's functions and of those that --alloc and --free name."""
     found = {}
     for name, (does, argument) in ALLOCATORS.items():
@@ -67,7 +68,7 @@ def hooks_of(program: Program, takes: Sequence[str], gives: Sequence[str]) -> Di
     return found
 
 
-def named_hook(program: Program, option: str, word: str, does: str) -> tuple[int, Hook]:
+def named_hook(program: CheckedProgram, option: str, word: str, does: str) -> tuple[int, Hook]:
     told = OPTION.fullmatch(word)
     form = "FN, FN:N or FN:=BYTES" if option == "--alloc" else "FN or FN:N"
     if not told or told[2] and option == "--free":
@@ -85,7 +86,7 @@ def named_hook(program: Program, option: str, word: str, does: str) -> tuple[int
     return at, Hook(told[1], does, argument, size, False)
 
 
-def size_of_result(program: Program, at: int) -> Optional[int]:
+def size_of_result(program: CheckedProgram, at: int) -> Optional[int]:
     """The size of what a function without parameters gives a pointer to, or None."""
     entry = program.entries.get(at)
     if entry is None or any(each.tag == PARAMETER for each in entry.below):
@@ -101,7 +102,7 @@ class Heap:
     gone    {address: the last block there that was given back}
     failed  calls that gave 0, with the size, and how much was live"""
 
-    def __init__(self, program: Program, memory: Memory, findings: Findings,
+    def __init__(self, program: CheckedProgram, memory: TaggedMemory, findings: Findings,
                  hooks: Mapping[int, Hook], is_whole: bool) -> None:
         self.program = program
         self.memory = memory
@@ -136,7 +137,7 @@ class Heap:
 
     # Calls of allocators' functions: their own rows aren't looked at.
 
-    def call(self, hart: Hart, hook: Hook, row: bytes) -> None:
+    def call(self, hart: CheckedHart, hook: Hook, row: bytes) -> None:
         """A function begins with this row."""
         back = hart.value(RA) or (hart.returns[-1] if hart.returns else 0)
         pcs = hart.callers(pc_of(row))[1:]
@@ -160,7 +161,7 @@ class Heap:
             slot = b"store %08x=" % (hart.value(A0) or 0)
         hart.awaited = Awaited(does, hook.name, b"%08x" % back, hook.size or size, old, when, slot)
 
-    def given(self, hart: Hart, address: int, hook: Hook, when: Event) -> Optional[Thing]:
+    def given(self, hart: CheckedHart, address: int, hook: Hook, when: Event) -> Optional[Thing]:
         """The live block that is given back or resized, or None: then something is wrong, or it
         isn't known."""
         block = self.live.get(address)
@@ -193,7 +194,7 @@ class Heap:
         self.findings.add((kind, when.pcs[:1], thing.taken if thing else None),
                           Finding(kind, text, when, thing))
 
-    def returned(self, hart: Hart, row: Optional[bytes], stored: Optional[bytes]) -> None:
+    def returned(self, hart: CheckedHart, row: Optional[bytes], stored: Optional[bytes]) -> None:
         """The function has returned: `row` wrote a0, and `stored` what posix_memalign gives."""
         awaited = hart.awaited
         assert awaited

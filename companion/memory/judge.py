@@ -7,7 +7,7 @@ from typing import Hashable, Iterator, NamedTuple, Optional
 
 from ..recording.cut import pc_of, word_of
 from ..recording.instruction import ALU, AMO, BRANCH, JUMP, LOAD, NAMES, SP, STORE
-from .facts import Facts
+from .facts import RegisterFacts
 from .findings import (
     AFTER_RETURN, AFTER_SCOPE, FREED as FREED_KIND, GLOBAL as GLOBAL_KIND, HEAP,
     MEMBER as MEMBER_KIND, NULL as NULL_KIND, OVERLAP, REGISTER, STACK, UNMAPPED,
@@ -16,7 +16,7 @@ from .heap import Heap
 from .operation import FULL, Operation
 from .state import (
     BESIDE, BLOCK, ENDED, FORBIDDEN, FRAME, FREED, GLOBAL, GOOD, MEMBER, NULL, SAVED,
-    UNDEFINED, UNWRITTEN, Hart, Memory,
+    UNDEFINED, UNWRITTEN, CheckedHart, TaggedMemory,
     Thing, value_of)
 from .value import NUMBER, as_term
 
@@ -33,9 +33,9 @@ MOST_SEARCHES = 2000        # for origins: each takes up to 10 ms
 NEXT = 8                    # bytes between objects that follow each other
 
 
-class Access(NamedTuple):
+class JudgedAccess(NamedTuple):
     """`base` is the register with the pointer."""
-    hart: Hart
+    hart: CheckedHart
     row: bytes
     one: Operation
     address: int
@@ -61,7 +61,7 @@ class Recent:
         self.before = self.text
         self.text = text
 
-    def back(self, hart: Hart, row: bytes, most: int) -> Iterator[bytes]:
+    def back(self, hart: CheckedHart, row: bytes, most: int) -> Iterator[bytes]:
         """So many rows of a hart before a row, the last one first."""
         mine = b"%d " % hart.number
         texts = self.text[:max(0, self.text.find(b"\n" + row))], self.before
@@ -77,7 +77,8 @@ class Judge:
     anchors  accesses that reach one object by a constant from another one's pointer, as compilers
              do: nothing is said of them"""
 
-    def __init__(self, facts: Facts, memory: Memory, heap: Heap, findings: Findings) -> None:
+    def __init__(self, facts: RegisterFacts, memory: TaggedMemory, heap: Heap,
+                 findings: Findings) -> None:
         self.facts = facts
         self.program = facts.program
         self.memory = memory
@@ -91,7 +92,7 @@ class Judge:
         self.own_units = {entry.unit if entry else None for entry in entries}
         self.searches = 0
 
-    def load(self, access: Access, thing: Optional[Thing]) -> int:
+    def load(self, access: JudgedAccess, thing: Optional[Thing]) -> int:
         """Tells what is wrong. Gives the bits that are loaded and that nobody wrote."""
         address = access.address
         size = access.size
@@ -106,7 +107,7 @@ class Judge:
             return 0
         return self.memory.undefined_bits(address, size)
 
-    def store(self, access: Access, thing: Optional[Thing]) -> None:
+    def store(self, access: JudgedAccess, thing: Optional[Thing]) -> None:
         """Tells what is wrong. The bytes are written then, if they are someone's."""
         address = access.address
         size = access.size
@@ -132,14 +133,14 @@ class Judge:
             return None in self.own_units and not BY_WORDS.fullmatch(self.program.function_of(pc))
         return entry.unit in self.own_units
 
-    def is_by_words(self, access: Access, has_good: bool) -> bool:
+    def is_by_words(self, access: JudgedAccess, has_good: bool) -> bool:
         return (has_good and access.size == 4 and access.address % 4 == 0
                 and bool(BY_WORDS.fullmatch(self.program.function_of(access.one.pc)))
                 and self.program.is_library(access.one.pc))
 
     # By a pointer that leads outside of what it was made for.
 
-    def outside(self, access: Access, thing: Thing) -> bool:
+    def outside(self, access: JudgedAccess, thing: Thing) -> bool:
         """Whether it is wrong, or nothing can be said."""
         if (thing.kind == BLOCK and access.address < thing.begin
                 and self.is_allocators(access.one.pc)):
@@ -154,24 +155,26 @@ class Judge:
         self.tell(access, kind, f"{access.verb}, {text}", thing)
         return True
 
-    def said(self, access: Access, thing: Thing) -> tuple[str, str]:
+    def said(self, access: JudgedAccess, thing: Thing) -> tuple[str, str]:
         """The kind, and what is said of the object."""
         if thing.kind == BLOCK:
-            text = f"{distance(access, thing.begin, thing.end)} a block of {thing.size} bytes"
+            text = (f"{distance_in_words(access, thing.begin, thing.end)} a block of "
+                    f"{thing.size} bytes")
             return (FREED_KIND, f"{text} that was given back") if thing.gone else (HEAP, text)
         if thing.kind == NULL:
             return NULL_KIND, f"{access.address} bytes from the 0 that {thing.name} gave"
         if thing.kind in (GLOBAL, MEMBER):
             return (MEMBER_KIND if thing.is_part else GLOBAL_KIND,
-                    f"{distance(access, thing.begin, thing.end)} {thing.name} ({thing.size} bytes)")
+                    f"{distance_in_words(access, thing.begin, thing.end)} {thing.name} "
+                    f"({thing.size} bytes)")
         if thing.gone:
             return AFTER_RETURN, f"{thing.name} has ended"
         if thing.has_ended(access.hart, access.one.pc):
             return AFTER_SCOPE, f"{thing.name}, whose block has ended"
-        return (STACK,
-                f"{distance(access, thing.begin, thing.end)} {thing.name} ({thing.size} bytes)")
+        return (STACK, f"{distance_in_words(access, thing.begin, thing.end)} {thing.name} "
+                f"({thing.size} bytes)")
 
-    def tell(self, access: Access, kind: str, text: str, thing: Optional[Thing]) -> None:
+    def tell(self, access: JudgedAccess, kind: str, text: str, thing: Optional[Thing]) -> None:
         key = self.key(kind, access.one.pc, thing)
         if key in self.anchors:
             self.findings.unknown[ANCHORED] += 1
@@ -196,7 +199,7 @@ class Judge:
         return (kind, self.program.function_at(pc).first, thing.taken.pcs[:1] if thing.taken
                 else thing.name, thing.gone.pcs[:1] if thing.gone else ())
 
-    def origin(self, access: Access, thing: Optional[Thing]) -> Optional[tuple[int, str]]:
+    def origin(self, access: JudgedAccess, thing: Optional[Thing]) -> Optional[tuple[int, str]]:
         """The place that loaded or made the pointer, and what it did, or (0, ""). None if another
         object can be meant, that the compiler reaches from this one's pointer."""
         hart = access.hart
@@ -221,7 +224,7 @@ class Judge:
             return None
         return found
 
-    def source(self, access: Access, size: int) -> Optional[tuple[int, str]]:
+    def source(self, access: JudgedAccess, size: int) -> Optional[tuple[int, str]]:
         """The place that loaded or made a pointer, by the last rows. None if a constant was added
         that leads out of so many bytes."""
         register = access.base
@@ -246,7 +249,7 @@ class Judge:
                         register = other
         return 0, ""
 
-    def is_loops_end(self, access: Access, thing: Thing) -> bool:
+    def is_loops_end(self, access: JudgedAccess, thing: Thing) -> bool:
         """Whether a loop over one object ended with a pointer to its end, which the compiler takes
         for the next one's begin."""
         after = self.program.object_at(thing.end) or self.program.object_at(thing.end + NEXT - 1)
@@ -277,13 +280,13 @@ class Judge:
                 return False
         return False
 
-    def tell_overlap(self, hart: Hart, row: bytes, size: int, common: int) -> None:
+    def tell_overlap(self, hart: CheckedHart, row: bytes, size: int, common: int) -> None:
         when = hart.event(row, pc_of(row))
         self.findings.add((OVERLAP, when.pcs[1:2]), Finding(
             OVERLAP,
             f"memcpy of {size} bytes between places that have {common} bytes in common", when))
 
-    def tell_unmapped(self, access: Access) -> None:
+    def tell_unmapped(self, access: JudgedAccess) -> None:
         """The run ended here, and nothing else was found."""
         made = self.source(access, FULL)
         self.findings.add(UNMAPPED, Finding(
@@ -292,7 +295,7 @@ class Judge:
 
     # To bytes that are no one's, whatever the pointer was made for.
 
-    def forbidden(self, access: Access, states: bytearray) -> None:
+    def forbidden(self, access: JudgedAccess, states: bytearray) -> None:
         if SAVED in states:
             register, at, _ = self.memory.saved.get(access.address & ~3, (0, access.one.pc, b""))
             if access.is_store:
@@ -309,7 +312,7 @@ class Judge:
             if block is not None:
                 self.tell(access, *self.said_of(access, block), block)
 
-    def said_of(self, access: Access, block: Thing) -> tuple[str, str]:
+    def said_of(self, access: JudgedAccess, block: Thing) -> tuple[str, str]:
         kind, text = self.said(access, block)
         return kind, f"{access.verb}, {text}"
 
@@ -318,7 +321,7 @@ HEADERS = "accesses beside blocks by functions of an allocator's file"
 ANCHORED = "accesses that a compiler may have meant for an object beside"
 
 
-def distance(access: Access, begin: int, end: int) -> str:
+def distance_in_words(access: JudgedAccess, begin: int, end: int) -> str:
     """The distance of an access from an object, in words."""
     if access.address >= end:
         return f"{access.address - end} bytes after"

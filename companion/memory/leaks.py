@@ -6,7 +6,7 @@ from typing import Dict, Iterator, List, NamedTuple, Set, Tuple
 
 from ..call.program import Output
 from .heap import Heap
-from .state import Hart, Thing
+from .state import CheckedHart, Thing
 
 WORD = b"word "
 MOST_CALLERS = 4            # places of which a group has the same
@@ -33,7 +33,8 @@ class Leaks:
     """A pointer is each word whose value is in a block: one that is a number by chance makes a
     block reached, and never lost."""
 
-    def __init__(self, heap: Heap, harts: List[Hart], words: Iterator[Tuple[int, int]]) -> None:
+    def __init__(self, heap: Heap, harts: List[CheckedHart],
+                 words: Iterator[Tuple[int, int]]) -> None:
         self.heap = heap
         # {block's begin: the blocks to which its words lead}
         self.inside: Dict[int, List[Thing]] = {}
@@ -72,5 +73,5 @@ class Leaks:
         return sorted(found.values(), key=lambda one: (-one.unreached, -one.size))
 
 
-def leaks_of(heap: Heap, harts: List[Hart], log_name: str, elf_name: str) -> List[Leak]:
+def leaks_of(heap: Heap, harts: List[CheckedHart], log_name: str, elf_name: str) -> List[Leak]:
     return Leaks(heap, harts, last_words(log_name, elf_name)).groups()

@@ -10,7 +10,7 @@ from ..call.text import number
 from ..recording.answers import put_found
 from ..recording.log import Log
 from ..recording.opened import opened
-from .answer import Answer
+from .answer import MemoryAnswer
 from .leaks import leaks_of
 from .run import run_of
 
@@ -56,7 +56,7 @@ def main(words: List[str]) -> int:
                      names_in(given, "--free"))
         leaks = (leaks_of(run.heap, run.harts, log.name, found.elf.name) if "--leaks" in given
                  else [])
-        answer = Answer(run, found.places, notes_of(log), leaks)
-        put_found("memory", answer, Answer.lines, Answer.answer, "--json" in given)
+        answer = MemoryAnswer(run, found.places, notes_of(log), leaks)
+        put_found("memory", answer, MemoryAnswer.lines, MemoryAnswer.answer, "--json" in given)
     return (FOUND if "--fail" in given
             and (answer.findings or any(leak.unreached for leak in leaks)) else 0)

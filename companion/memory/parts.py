@@ -6,10 +6,10 @@ import re
 from typing import Callable, Dict, NamedTuple, Optional
 
 from ..recording.types import Elements, Part
-from .facts import Facts
+from .facts import RegisterFacts
 from .operation import FULL, Operation
 from .program import Local
-from .state import FRAME, GLOBAL, MEMBER, Hart, Thing, value_of
+from .state import FRAME, GLOBAL, MEMBER, CheckedHart, Thing, value_of
 from .value import ABSOLUTE, POINTER, Value
 from .value import FRAME as IN_FRAME
 
@@ -19,7 +19,7 @@ BEFORE = 16                 # bytes: so close before an object another may end w
 NEAR = 4
 FAR = 65536                 # bytes: an access farther than this is by an index that wasn't one
 # Of an access's address: the thing that it misses, or None
-Limit = Callable[[Hart, int], Optional[Thing]]
+Limit = Callable[[CheckedHart, int], Optional[Thing]]
 # The same of an address, and of where a structure begins, or one of several behind each other.
 Missed = Callable[[int, int], Optional[Thing]]
 
@@ -43,7 +43,7 @@ class Place(NamedTuple):
 
 
 class Parts:
-    def __init__(self, facts: Facts) -> None:
+    def __init__(self, facts: RegisterFacts) -> None:
         self.facts, self.program, self.types = facts, facts.program, facts.program.types
         self.globals: Dict[int, Optional[Thing]] = {}
 
@@ -106,7 +106,7 @@ class Parts:
                 low = min(low, other.low)
                 high = max(high, other.high)
 
-        def limit(_: Hart, address: int) -> Optional[Thing]:
+        def limit(_: CheckedHart, address: int) -> Optional[Thing]:
             is_in = low <= address and address + size <= high
             if (is_in or not -FAR < address - missed.begin < FAR + high - low
                     or missed.holds(address, size)):
@@ -189,7 +189,7 @@ class Parts:
             return None
         missed = told
 
-        def limit(hart: Hart, address: int) -> Optional[Thing]:
+        def limit(hart: CheckedHart, address: int) -> Optional[Thing]:
             tag = hart.tags[register]
             kept = hart.indexed[register]
             if tag is not None and not tag.holds(address, width):
@@ -229,13 +229,13 @@ class Parts:
             inside += [each for each in listed if each.has_parts and inside and (
                 each.end == offset or 0 < each.offset - offset <= BEFORE
                 and all(other.offset != offset for other in inside))]
-            return place_of(inside, [], offset) if inside else None
+            return frame_place(inside, [], offset) if inside else None
         begins_here = any(each.offset == offset for each in inside)
         before = [each for each in listed if begins_here and each.end == offset]
         chosen = inside or [each for each in listed if each.end == offset
                             or 0 < each.offset - offset <= NEAR]
         if chosen:
-            return place_of(chosen, before, offset)._replace(scope=self.scope_of(pc, chosen))
+            return frame_place(chosen, before, offset)._replace(scope=self.scope_of(pc, chosen))
         above = [at for at in self.facts.slots.get(first, {}) if at > offset]
         # (behind what a function with any number of arguments got in registers come others)
         return Place(None, min(above) - offset, "") if above and offset < 0 else None
@@ -265,7 +265,7 @@ class Parts:
         name = local_name(found.name, self.program.function_of(one.pc))
         begin = -stack.offset
 
-        def limit(hart: Hart, address: int) -> Optional[Thing]:
+        def limit(hart: CheckedHart, address: int) -> Optional[Thing]:
             at = address - hart.sp
             if low <= at and at + width <= high or not -FAR < at - begin < FAR:
                 return None
@@ -286,7 +286,7 @@ class Parts:
         return self.indexed_local(one, base) if base.to == IN_FRAME else None
 
 
-def place_of(chosen: list[Local], before: list[Local], offset: int) -> Place:
+def frame_place(chosen: list[Local], before: list[Local], offset: int) -> Place:
     names = sorted({each.name for each in chosen if each.name})
     first = min(each.offset for each in chosen)
     return Place(min([first] + [each.offset for each in before]) - offset,

@@ -9,8 +9,8 @@ from typing import Callable, Dict, Optional
 from ..recording.types import TO_ALIGNED, TO_CODE
 from .findings import POINTER, Finding, Findings
 from .operation import FULL, Operation
-from .program import Program
-from .state import CODE, Event, Hart, Memory, Thing
+from .program import CheckedProgram
+from .state import CODE, Event, CheckedHart, TaggedMemory, Thing
 
 # They move bytes of whatever type
 COPIES = re.compile(r"_*(mem(cpy|move|set|ccpy)|bcopy|bzero)(_.*)?")
@@ -19,7 +19,7 @@ LEAST_ADDRESS = 4096
 
 
 @dataclass
-class Suspect:
+class SuspectPointer:
     """The last store that left a word what is no pointer."""
     value: int
     pc: int
@@ -31,21 +31,21 @@ class PointerWords:
     other words are stored to, since several stores can make one pointer. renew: what is called if
     code is stored to"""
 
-    def __init__(self, program: Program, memory: Memory, findings: Findings,
+    def __init__(self, program: CheckedProgram, memory: TaggedMemory, findings: Findings,
                  renew: Callable[[], None]) -> None:
         self.program = program
         self.memory = memory
         self.findings = findings
         self.renew = renew
         self.sorts = bytearray(memory.size // 4 + 2)
-        self.suspects: Dict[int, Suspect] = {}
+        self.suspects: Dict[int, SuspectPointer] = {}
         for each in program.sized:
             for offset, to in program.types.pointers_in(program.objects.get(each.address)):
                 at = each.address + offset
                 if at % 4 == 0 and at + 4 <= min(each.end, memory.size):
                     self.sorts[at >> 2] = to
 
-    def stored(self, hart: Hart, one: Operation, row: bytes, address: int,
+    def stored(self, hart: CheckedHart, one: Operation, row: bytes, address: int,
                tag: Optional[Thing]) -> bool:
         """Whether the word is code of a block, which isn't true any more."""
         word = address >> 2
@@ -61,7 +61,7 @@ class PointerWords:
         else:
             is_good = COPIES.fullmatch(self.program.function_of(one.pc)) is not None
         if not is_good:
-            self.suspects[word] = Suspect(value, one.pc, hart.event(row, one.pc))
+            self.suspects[word] = SuspectPointer(value, one.pc, hart.event(row, one.pc))
         return False
 
     def is_pointer(self, value: int, word: int) -> bool:

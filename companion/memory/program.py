@@ -12,7 +12,7 @@ from typing import Iterator, NamedTuple, Optional
 from ..recording.dwarf import (
     BLOCK, FRAME_BASE, FUNCTION, HIGH, INLINED, LOCATION, LONGEST_NAME, LOW, PARAMETER,
     VARIABLE, Entry,
-    signed)
+    signed_leb)
 from ..recording.elf import FUNCTION as FUNCTION_SYMBOL
 from ..recording.elf import Elf, Symbol, last_before
 from ..recording.locations import locations
@@ -33,7 +33,7 @@ REGISTERS = 8               # that hold arguments
 MOST_LOCATIONS = 1 << 20    # of all functions' variables: forged ones could share a long list
 
 
-class Function(NamedTuple):
+class CheckedFunction(NamedTuple):
     first: int
     end: int
     name: str
@@ -55,7 +55,7 @@ class Local(NamedTuple):
         return self.offset + self.size
 
 
-class Program(Members):
+class CheckedProgram(Members):
     """sized  the global objects whose size is known, by address"""
 
     def __init__(self, elf: Elf) -> None:
@@ -84,12 +84,12 @@ class Program(Members):
         every = self.dwarf.entries.values()
         return Counter(self.dwarf.name_of(each) for each in every if each.tag == INLINED)
 
-    def function_at(self, pc: int) -> Function:
+    def function_at(self, pc: int) -> CheckedFunction:
         """The function that an address is in. A label without a size, in a function that has one,
         is a part of it."""
         at = bisect.bisect_right(self.begins, pc) - 1
         if at < 0:
-            return Function(pc, pc + 4, "")
+            return CheckedFunction(pc, pc + 4, "")
         first = self.begins[at]
         for before in self.begins[max(0, at - 8):at + 1][::-1]:
             if self.symbols[before].size:
@@ -97,8 +97,8 @@ class Program(Members):
                 break
         size = self.symbols[first].size
         following = self.begins[at + 1] if at + 1 < len(self.begins) else pc + 4
-        return Function(first, max(first + size if size else following, pc + 4),
-                        self.symbols[first].name)
+        return CheckedFunction(first, max(first + size if size else following, pc + 4),
+                               self.symbols[first].name)
 
     def function_of(self, pc: int) -> str:
         return self.function_at(pc).name
@@ -186,8 +186,8 @@ class Program(Members):
                 where = each.block(LOCATION)
                 kind = self.dwarf.type_of(each)
                 if (where[:1] == bytes([FBREG]) and self.types.size(kind)
-                        and signed(where + b"\0", 1)[1] == len(where)):
-                    yield Local(signed(where, 1)[0], self.types.size(kind),
+                        and signed_leb(where + b"\0", 1)[1] == len(where)):
+                    yield Local(signed_leb(where, 1)[0], self.types.size(kind),
                                 self.dwarf.name_of(each), low, high, self.types.has_parts(kind),
                                 self.types.pointed(kind))
             elif each.tag in (BLOCK, INLINED):

@@ -7,28 +7,28 @@ from ..recording.chunks import chunks, places, row_at
 from ..recording.elf import Elf
 from ..recording.log import Log
 from .actions import FAULT, KEY, Actions
-from .blocks import Blocks
+from .blocks import CompiledBlocks
 from .checks import Checks
 from .heap import STORES, Hook, hooks_of
-from .program import Program
-from .state import Hart
+from .program import CheckedProgram
+from .state import CheckedHart
 
 FAULTED = b" | fault "
 RESULT = b"| a0="
 FEW = 6                     # rows of a turn on average: shorter ones are followed row by row
 
 
-class Run(Checks):
+class CheckedRun(Checks):
     """read      how many rows were read"""
 
-    def __init__(self, log: Log, program: Program, hooks: Mapping[int, Hook],
+    def __init__(self, log: Log, program: CheckedProgram, hooks: Mapping[int, Hook],
                  is_plain: bool = False) -> None:
         """A plain one follows row by row, which says the same as blocks."""
         super().__init__(log, program, hooks)
         self.read = 0
         self.is_plain = is_plain
         self.actions = [Actions(self, hart) for hart in self.harts]
-        self.blocks = [Blocks(actions) for actions in self.actions]
+        self.blocks = [CompiledBlocks(actions) for actions in self.actions]
         # Of the function that is passed over: what wrote a0 last, and what stored the result of
         # posix_memalign.
         self.results: Dict[int, Optional[bytes]] = {}
@@ -40,7 +40,7 @@ class Run(Checks):
             self.read += text.count(b"\n")
             fault = text.find(FAULTED)
             end = text.rfind(b"\n", 0, fault) if fault >= 0 else len(text)
-            turns = [text[1:end]] if len(self.harts) == 1 else turns_of(text[1:end].split(b"\n"))
+            turns = [text[1:end]] if len(self.harts) == 1 else turn_texts(text[1:end].split(b"\n"))
             if self.is_plain or not turns[0] or len(turns) * FEW > text.count(b"\n"):
                 end = 0
             for turn in turns if end else ():
@@ -78,7 +78,7 @@ class Run(Checks):
             else:
                 at = blocks[text[at + begin:at + begin + KEY]](text, at)
 
-    def passed_over(self, hart: Hart, text: bytes, at: int, begin: int) -> int:
+    def passed_over(self, hart: CheckedHart, text: bytes, at: int, begin: int) -> int:
         """The place of the row behind an allocator's function that is under way, or the end if it
         isn't among these."""
         assert hart.awaited
@@ -91,7 +91,7 @@ class Run(Checks):
         self.inside(hart, text[at:])
         return len(text)
 
-    def inside(self, hart: Hart, rows: bytes) -> None:
+    def inside(self, hart: CheckedHart, rows: bytes) -> None:
         """Rows of an allocator's function."""
         at = rows.rfind(RESULT)
         if at >= 0:
@@ -100,7 +100,7 @@ class Run(Checks):
         if at >= 0:
             self.stored[hart.number] = row_at(rows, at)
 
-    def returned(self, hart: Hart) -> None:
+    def returned(self, hart: CheckedHart) -> None:
         assert hart.awaited
         if hart.returns and hart.returns[-1] == int(hart.awaited.back, 16):
             hart.returns.pop()
@@ -124,11 +124,11 @@ class Run(Checks):
 
 
 def run_of(log: Log, elf_name: str, named: Elf, takes: Sequence[str] = (),
-           gives: Sequence[str] = ()) -> Run:
+           gives: Sequence[str] = ()) -> CheckedRun:
     """The checks of a log, after its last row. `takes` and `gives` are what --alloc and --free
     name."""
-    program = Program(named)
-    run = Run(log, program, hooks_of(program, takes, gives))
+    program = CheckedProgram(named)
+    run = CheckedRun(log, program, hooks_of(program, takes, gives))
     run.along(chunks(log.name, elf_name, log=log))
     return run
 
@@ -138,7 +138,7 @@ def key_begin(row: bytes) -> int:
     return row.index(b" ", 3) + 1
 
 
-def turns_of(rows: List[bytes]) -> List[bytes]:
+def turn_texts(rows: List[bytes]) -> List[bytes]:
     """The texts of rows that follow each other of the same hart."""
     harts = [row[:2] for row in rows]
     changes = (at for at, (one, other) in enumerate(zip(harts, harts[1:]), 1) if one != other)

@@ -9,8 +9,8 @@ from ..recording.instruction import RA, SP
 from .findings import DEPTH, RETURN, Finding, Findings
 from .heap import Heap
 from .operation import Operation
-from .program import Program
-from .state import ENDED, GOOD, UNWRITTEN, Event, Hart, Memory, Thing
+from .program import CheckedProgram
+from .state import ENDED, GOOD, UNWRITTEN, Event, CheckedHart, TaggedMemory, Thing
 from .value import ABSOLUTE
 
 # Of a stack that has nothing else below: so many are its own for certain
@@ -20,11 +20,11 @@ LARGEST_FRAME = 1 << 20     # bytes
 WRITABLE = 2                # a segment's flag
 
 
-class Stacks:
+class CheckedStacks:
     """Of a log that lost its beginning the begin of a stack isn't known."""
 
-    def __init__(self, program: Program, memory: Memory, heap: Heap, findings: Findings,
-                 harts: List[Hart]) -> None:
+    def __init__(self, program: CheckedProgram, memory: TaggedMemory, heap: Heap,
+                 findings: Findings, harts: List[CheckedHart]) -> None:
         self.program = program
         self.memory = memory
         self.heap = heap
@@ -33,7 +33,7 @@ class Stacks:
         for hart in harts:
             self.set_limit(hart)
 
-    def grow_or_shrink(self, hart: Hart, new: int, row: bytes, one: Operation) -> None:
+    def grow_or_shrink(self, hart: CheckedHart, new: int, row: bytes, one: Operation) -> None:
         """A constant was added to sp: a frame begins or ends."""
         old = hart.sp
         if new < old:
@@ -44,7 +44,7 @@ class Stacks:
             self.end_frames(hart, old, new)
         hart.sp = new
 
-    def set(self, hart: Hart, new: int, row: bytes, one: Operation) -> None:
+    def set(self, hart: CheckedHart, new: int, row: bytes, one: Operation) -> None:
         """sp gets a value in another way."""
         old = hart.sp
         if not hart.top or not hart.lowest <= new <= hart.top and not hart.returns:
@@ -65,11 +65,11 @@ class Stacks:
             self.memory.fill(hart.lowest, hart.top, GOOD)
         hart.sp = new
 
-    def begin_frame(self, hart: Hart, low: int, high: int) -> None:
+    def begin_frame(self, hart: CheckedHart, low: int, high: int) -> None:
         if hart.is_own and high - low < LARGEST_FRAME:
             self.memory.fill(low, high, UNWRITTEN)
 
-    def end_frames(self, hart: Hart, low: int, high: int) -> None:
+    def end_frames(self, hart: CheckedHart, low: int, high: int) -> None:
         """What is below `high` is no frame's, and pointers into it lead nowhere."""
         if hart.is_own and high - low < LARGEST_FRAME:
             self.memory.fill(low, high, ENDED)
@@ -77,7 +77,7 @@ class Stacks:
         while places and places[-1].begin < high:
             places.pop().end_life(Event(hart.number, 0, ()))
 
-    def keep(self, hart: Hart, thing: Thing) -> None:
+    def keep(self, hart: CheckedHart, thing: Thing) -> None:
         """A pointer to a place of a frame was made: it leads nowhere once the frame has ended."""
         at = len(hart.places)
         while at and hart.places[at - 1].begin < thing.begin:
@@ -86,7 +86,7 @@ class Stacks:
 
     # How deep they are.
 
-    def set_limit(self, hart: Hart) -> None:
+    def set_limit(self, hart: CheckedHart) -> None:
         """The address down to which a stack may grow for certain: above what lies below it, or its
         own bytes."""
         below = [each.end if each.end <= hart.top else each.address
@@ -95,7 +95,7 @@ class Stacks:
                  for part in self.program.elf.parts if part.address + part.size <= hart.top]
         hart.limit = max(below + parts + [hart.top - OWN_BYTES, 0])
 
-    def deepen(self, hart: Hart, new: int, row: bytes, one: Operation) -> None:
+    def deepen(self, hart: CheckedHart, new: int, row: bytes, one: Operation) -> None:
         if hart.is_away or new < hart.top - LARGEST or new > self.memory.size:
             return
         hart.lowest = new
@@ -110,7 +110,7 @@ class Stacks:
                 DEPTH, f"the stack of hart {hart.number} is {hart.top - new:,} bytes deep, "
                 f"and has run into {met}", hart.lowest_at))
 
-    def met(self, hart: Hart, low: int) -> str:
+    def met(self, hart: CheckedHart, low: int) -> str:
         """What is at a place that a stack has come to, or nothing."""
         there = self.program.object_at(low)
         if there is not None and not there.address <= hart.top - 1 < there.end:
@@ -127,7 +127,7 @@ class Stacks:
 
     # Returns that fit no call.
 
-    def strayed(self, hart: Hart, to: int, row: bytes, one: Operation) -> None:
+    def strayed(self, hart: CheckedHart, to: int, row: bytes, one: Operation) -> None:
         """A return leads to a place behind no call. It is wrong if the address was saved otherwise
         in the frame that has it."""
         loaded = hart.rows[RA] if one.rs1 == RA else None

@@ -79,7 +79,7 @@ class Thing:
     def holds(self, address: int, size: int) -> bool:
         return self.low <= address and address + size <= self.high
 
-    def has_ended(self, _hart: Hart, _pc: int) -> bool:
+    def has_ended(self, _hart: CheckedHart, _pc: int) -> bool:
         """Whether nothing is left of it when a place is executed."""
         return self.gone is not None
 
@@ -93,7 +93,7 @@ class Scoped(Thing):
     __slots__ = "scope", "function", "hart", "depth"
 
     def __init__(self, thing: Thing, scope: Tuple[int, int],
-                 function: Tuple[int, int], hart: Hart) -> None:
+                 function: Tuple[int, int], hart: CheckedHart) -> None:
         super().__init__(FULL, 0, FRAME, thing.name)
         self.begin = thing.begin
         self.end = thing.end
@@ -106,7 +106,7 @@ class Scoped(Thing):
     def holds(self, address: int, size: int) -> bool:
         return self.gone is None and self.begin <= address and address + size <= self.end
 
-    def has_ended(self, hart: Hart, pc: int) -> bool:
+    def has_ended(self, hart: CheckedHart, pc: int) -> bool:
         """(The place of another hart's function isn't known, nor after calls that weren't followed:
         then nothing is said.)"""
         if self.gone is not None or hart.number != self.hart:
@@ -120,7 +120,7 @@ class Scoped(Thing):
 DIFFERENCE = Thing(0, FULL + 1, NUMBER)
 
 
-class Origin(NamedTuple):
+class ValueOrigin(NamedTuple):
     """The origin of bits that nobody wrote: in words, the block, and the place of the load."""
     text: str
     thing: Optional[Thing]
@@ -131,10 +131,10 @@ class Undefined(NamedTuple):
     """The bits of a register that nobody wrote; of no `origin` are those of a library's own frame,
     whose matter they are."""
     bits: int
-    origin: Optional[Origin]
+    origin: Optional[ValueOrigin]
 
 
-class Asked:
+class AskedMemory:
     """Memory that a function asks for on its stack while it runs: sp behind it, its bytes, and the
     thing once there is a pointer."""
     __slots__ = "sp", "size", "thing"
@@ -145,7 +145,7 @@ class Asked:
         self.thing: Optional[Thing] = None
 
 
-class Hart:
+class CheckedHart:
     """tags      of each register what its value points into, or None
     rows      of each register the row that wrote it last, or its value, or None
     indexed   of each register the row or the value of the structure's pointer to which an index was
@@ -179,7 +179,7 @@ class Hart:
         self.has_met = False
         self.is_away = False
         self.asking = b""
-        self.asked: Optional[Asked] = None
+        self.asked: Optional[AskedMemory] = None
         self.awaited: Optional[Awaited] = None
 
     def value(self, register: int) -> Optional[int]:
@@ -227,7 +227,7 @@ class Awaited(NamedTuple):
     slot: bytes = b""
 
 
-class Memory:
+class TaggedMemory:
     """states  of each byte
     tags    of each word what the pointer in it points into
     bits, origins  {address of a byte that is PARTLY or COPIED: its bits that nobody wrote; their
@@ -239,7 +239,7 @@ class Memory:
         self.states = bytearray(size + 8)
         self.tags: List[Optional[Thing]] = [None] * (size // 4 + 2)
         self.bits: Dict[int, int] = {}
-        self.origins: Dict[int, Optional[Origin]] = {}
+        self.origins: Dict[int, Optional[ValueOrigin]] = {}
         self.saved: Dict[int, Tuple[int, int, bytes]] = {}
 
     def fill(self, begin: int, end: int, state: int) -> None:

@@ -10,7 +10,7 @@ from .operation import FULL, Operation
 from .parts import local_name
 from .pointers import LEAST_ADDRESS
 from .stacks import is_frame_move
-from .state import DIFFERENCE, FRAME, MEMBER, Act, Hart, Scoped, Thing, value_of
+from .state import DIFFERENCE, FRAME, MEMBER, Act, CheckedHart, Scoped, Thing, value_of
 from .value import ABSOLUTE, POINTER, Value
 from .value import FRAME as IN_FRAME
 
@@ -18,7 +18,7 @@ BY_NEGATIVE = "andi"        # with a negative constant it aligns a pointer
 
 
 class Sums:
-    def __init__(self, checks: Checks, hart: Hart) -> None:
+    def __init__(self, checks: Checks, hart: CheckedHart) -> None:
         self.checks = checks
         self.hart = hart
 
@@ -246,7 +246,7 @@ class Sums:
         return act
 
 
-def frame_thing(checks: Checks, hart: Hart, one: Operation,
+def frame_thing(checks: Checks, hart: CheckedHart, one: Operation,
                 value: Value) -> Optional[Callable[[int], Thing]]:
     """What gives the thing of a pointer to a place of the frame."""
     found = checks.parts.place(one.pc, value.offset)

@@ -8,7 +8,7 @@ from .findings import UNINITIALIZED, Finding
 from .heap import Hook
 from .judge import Judge
 from .operation import FULL, Operation
-from .state import COPIED, PARTLY, Act, Hart, Origin, Undefined
+from .state import COPIED, PARTLY, Act, CheckedHart, ValueOrigin, Undefined
 from .value import FRAME
 from ..recording.instruction import A0, A1, A2, A7, ALU, AMO, BRANCH, CALL, JUMP, LOAD, STORE
 from ..recording.log import READ_CALL, WRITE_CALL
@@ -28,7 +28,7 @@ def signed_shift(bits: int, by: int) -> int:
     return bits >> by | (FULL << 32 - by & FULL if bits >> 31 and by else 0)
 
 
-def result_bits(hart: Hart, one: Operation, x: int, y: int) -> int:
+def result_bits(hart: CheckedHart, one: Operation, x: int, y: int) -> int:
     """The bits of a result that depend on bits that nobody wrote: x of rs1, y of rs2. Exact for
     what moves and masks bits; else as many as may."""
     name = one.name
@@ -58,7 +58,7 @@ def result_bits(hart: Hart, one: Operation, x: int, y: int) -> int:
     return 1 if name in COMPARING else FULL
 
 
-def masked_bits(hart: Hart, one: Operation, x: int, y: int) -> int:
+def masked_bits(hart: CheckedHart, one: Operation, x: int, y: int) -> int:
     """A bit that the other operand determines depends on nothing."""
     values = []
     for register in (one.rs1, one.rs2):
@@ -76,7 +76,7 @@ class UndefinedBits:
         self.program = judge.program
         self.memory = judge.memory
 
-    def around(self, hart: Hart, one: Operation, act: Act, hook: Optional[Hook]) -> Act:
+    def around(self, hart: CheckedHart, one: Operation, act: Act, hook: Optional[Hook]) -> Act:
         """A row's action while a register has such bits: what depends on them before it, and the
         bytes that have them after it."""
         before = self.before(hart, one, hook)
@@ -91,7 +91,8 @@ class UndefinedBits:
             return bool(is_over) or not hart.undefined
         return both
 
-    def before(self, hart: Hart, one: Operation, hook: Optional[Hook]) -> Callable[[bytes], None]:
+    def before(self, hart: CheckedHart, one: Operation,
+               hook: Optional[Hook]) -> Callable[[bytes], None]:
         """What a row uses; the register that it writes has none any more, unless the row brings
         some."""
         if hook is not None:
@@ -112,12 +113,12 @@ class UndefinedBits:
             hart.undefined.pop(one.rd, None)
         return use
 
-    def called(self, hart: Hart, one: Operation, row: bytes) -> None:
+    def called(self, hart: CheckedHart, one: Operation, row: bytes) -> None:
         used = (A7, A0, A1, A2) if hart.value(A7) in (READ_CALL, WRITE_CALL) else (A7, A0)
         self.used(hart, one, row, used, "a system call depends")
         hart.undefined.pop(A0, None)
 
-    def computed(self, hart: Hart, one: Operation) -> None:
+    def computed(self, hart: CheckedHart, one: Operation) -> None:
         """An instruction without an access has run."""
         x = hart.undefined.get(one.rs1)
         y = hart.undefined.get(one.rs2) if one.rs2 else None
@@ -128,7 +129,7 @@ class UndefinedBits:
         else:
             hart.undefined.pop(one.rd, None)
 
-    def loaded(self, hart: Hart, one: Operation, address: int, bits: int) -> bool:
+    def loaded(self, hart: CheckedHart, one: Operation, address: int, bits: int) -> bool:
         """Bits that nobody wrote are in a register."""
         width = 8 * one.width
         if one.rd:
@@ -137,7 +138,7 @@ class UndefinedBits:
             hart.undefined[one.rd] = Undefined(bits, self.origin(hart, one.pc, address))
         return True
 
-    def stored(self, hart: Hart, one: Operation, address: int) -> None:
+    def stored(self, hart: CheckedHart, one: Operation, address: int) -> None:
         """They are in memory, which is no error."""
         bits, origin = hart.undefined[one.rs2]
         for at in range(one.width):
@@ -147,7 +148,7 @@ class UndefinedBits:
                 self.memory.bits[address + at] = part
                 self.memory.origins[address + at] = origin
 
-    def branched(self, hart: Hart, one: Operation, row: bytes) -> None:
+    def branched(self, hart: CheckedHart, one: Operation, row: bytes) -> None:
         """A branch depends on them, unless other bits determine it, or a library's function looks
         at bytes that don't count."""
         if one.rs1 not in hart.undefined and one.rs2 not in hart.undefined:
@@ -161,7 +162,7 @@ class UndefinedBits:
         if not LOOKS.fullmatch(self.program.function_of(one.pc)):
             self.used(hart, one, row, (one.rs1, one.rs2), "a branch depends")
 
-    def used(self, hart: Hart, one: Operation, row: bytes,
+    def used(self, hart: CheckedHart, one: Operation, row: bytes,
              registers: Tuple[int, ...], what: str) -> None:
         """Tells of the first of these registers that has such bits; it is good then, so that one
         error is told once."""
@@ -173,12 +174,13 @@ class UndefinedBits:
                               f"{what} on bytes that nobody wrote{origin.text}", origin)
                 return
 
-    def tell(self, hart: Hart, one: Operation, row: bytes, text: str, origin: Origin) -> None:
+    def tell(self, hart: CheckedHart, one: Operation, row: bytes, text: str,
+             origin: ValueOrigin) -> None:
         key = self.judge.key(UNINITIALIZED, one.pc, origin.thing)
         self.judge.findings.add(key, Finding(UNINITIALIZED, text, hart.event(row, one.pc),
                                              origin.thing, origin.pc, "loaded"))
 
-    def written(self, hart: Hart, one: Operation, row: bytes, buffer: int,
+    def written(self, hart: CheckedHart, one: Operation, row: bytes, buffer: int,
                 size: int, at: int) -> None:
         """A byte of a `write` call is one that nobody wrote."""
         origin = self.origin(hart, one.pc, buffer + at)
@@ -186,7 +188,7 @@ class UndefinedBits:
             self.tell(hart, one, row, f"byte {at} of {size} that are written out is one that "
                       f"nobody wrote{origin.text}", origin)
 
-    def origin(self, hart: Hart, pc: int, address: int) -> Optional[Origin]:
+    def origin(self, hart: CheckedHart, pc: int, address: int) -> Optional[ValueOrigin]:
         """The origin of bytes that nobody wrote; None if that is a library's own frame."""
         for at in range(address, (address | 3) + 1):
             if self.memory.states[at] in (PARTLY, COPIED):
@@ -195,11 +197,11 @@ class UndefinedBits:
             return self.in_frame(hart, pc, address)
         block = self.judge.heap.holding(address)
         if block is not None:
-            return Origin(f", {address - block.begin} bytes into a block of {block.size} bytes",
-                          block, pc)
-        return Origin(f", at {address:08x}", None, pc)
+            return ValueOrigin(f", {address - block.begin} bytes into a block of "
+                               f"{block.size} bytes", block, pc)
+        return ValueOrigin(f", at {address:08x}", None, pc)
 
-    def in_frame(self, hart: Hart, pc: int, address: int) -> Optional[Origin]:
+    def in_frame(self, hart: CheckedHart, pc: int, address: int) -> Optional[ValueOrigin]:
         """Of which function's frame an address is, walked from the innermost one by what is known
         of each place."""
         sp: Optional[int] = hart.sp
@@ -214,13 +216,13 @@ class UndefinedBits:
                     return None
                 names = [each.name for each in self.program.locals_of(function.first) or ()
                          if each.name and each.offset <= address - begin < each.end]
-                return Origin(f", of {names[0] if names else 'the frame'} of {function.name}",
-                              None, pc)
+                return ValueOrigin(f", of {names[0] if names else 'the frame'} of {function.name}",
+                                   None, pc)
             sp = begin
-        return Origin(f", of the stack at {address:08x}", None, pc)
+        return ValueOrigin(f", of the stack at {address:08x}", None, pc)
 
 
-def sum_of_bits(hart: Hart, one: Operation) -> int:
+def sum_of_bits(hart: CheckedHart, one: Operation) -> int:
     return sum_bits(hart.undefined.get(one.rs1)) | sum_bits(hart.undefined.get(one.rs2))
 
 

@@ -45,7 +45,7 @@ def is_exact(value: Optional[Value]) -> bool:
     return term.to == NUMBER and not term.indexed
 
 
-def moved(value: Optional[Value], by: int) -> Optional[Value]:
+def moved_value(value: Optional[Value], by: int) -> Optional[Value]:
     """A value with a constant added."""
     if value is None:
         return Value(NUMBER, by, True)
@@ -57,7 +57,7 @@ def moved(value: Optional[Value], by: int) -> Optional[Value]:
                           more=value.more or int(value.to == ABSOLUTE and by != 0))
 
 
-def added(one: Optional[Value], other: Optional[Value]) -> Optional[Value]:
+def sum_of_values(one: Optional[Value], other: Optional[Value]) -> Optional[Value]:
     x = as_term(one)
     y = as_term(other)
     if WILD in (x.to, y.to):

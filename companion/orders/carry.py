@@ -6,7 +6,7 @@ from typing import AbstractSet, List, NamedTuple, Optional, Sequence
 
 from ..recording.row import Row
 from ..recording.turns import Piece, Pieces, joined
-from .finding import Found, find, find_like, missing
+from .finding import FoundTurn, find, find_like, missing
 from .marks import CALL, FAULT, Mark, Order, Point
 from .meaning import Turn, access_of
 from .runs import Runs
@@ -26,7 +26,7 @@ FORBIDDEN = "forbidden"
 GONE = "gone"
 
 
-class Step(NamedTuple):
+class CarriedStep(NamedTuple):
     """What became of a mark: kept as it was, forbidden by another hart's lock, or gone; and what is
     told of it."""
     mark: Mark
@@ -50,7 +50,7 @@ class Carrier:
         self.runs = runs
         self.order = order
         self.pieces: List[Piece] = []
-        self.steps: List[Step] = []
+        self.steps: List[CarriedStep] = []
 
     def run(self) -> Pieces:
         for mark in self.order.marks:
@@ -69,7 +69,7 @@ class Carrier:
                 return (spin.begin if spin else len(turns)) + BEHIND
             most *= TIMES
 
-    def place(self, mark: Mark) -> Step:
+    def place(self, mark: Mark) -> CarriedStep:
         """By its line, if need be after others have let the hart continue; else by a line like
         it."""
         kept = list(self.pieces)
@@ -90,38 +90,39 @@ class Carrier:
             found = found or find_like(self.points(turns), mark)
         if found:
             self.pieces.append(Piece(mark.hart, found.turn + 1))
-            return Step(mark, FORBIDDEN if waited else KEPT, found.how + waited)
+            return CarriedStep(mark, FORBIDDEN if waited else KEPT, found.how + waited)
         self.pieces = kept
         why = "it has no place any more: " + missing(self.points(first), mark)
-        return self.placed_alike(mark, first, kept) or Step(mark, GONE, why)
+        return self.placed_alike(mark, first, kept) or CarriedStep(mark, GONE, why)
 
-    def placed_alike(self, mark: Mark, turns: Sequence[Turn], kept: List[Piece]) -> Optional[Step]:
+    def placed_alike(self, mark: Mark, turns: Sequence[Turn],
+                     kept: List[Piece]) -> Optional[CarriedStep]:
         found = find_like(self.points(turns), mark)
         if not found:
             return None
         self.pieces = [*kept, Piece(mark.hart, found.turn + 1)]
-        return Step(mark, KEPT, found.how)
+        return CarriedStep(mark, KEPT, found.how)
 
-    def stuck(self, mark: Mark, spin: Spin, kept: List[Piece]) -> Step:
+    def stuck(self, mark: Mark, spin: Spin, kept: List[Piece]) -> CarriedStep:
         """A hart that nothing lets continue stops as it begins to wait. What it would have done
         then isn't known."""
         self.pieces = [*kept, Piece(mark.hart, spin.begin + 1)]
         waits = (f"hart {mark.hart} waits in {self.where(spin.row)} for "
                  f"{self.runs.meaning.name(spin.word)}, which no other hart alone changes")
         if not self.runs.meaning.has_object(mark.point.symbol):
-            return Step(mark, GONE, f"it has no object {mark.point.symbol}; {waits}")
-        return Step(mark, FORBIDDEN, f"it can't come: {waits}")
+            return CarriedStep(mark, GONE, f"it has no object {mark.point.symbol}; {waits}")
+        return CarriedStep(mark, FORBIDDEN, f"it can't come: {waits}")
 
     def points(self, turns: Sequence[Turn]) -> List[Optional[Point]]:
         return self.runs.meaning.points(turns)
 
-    def find(self, turns: Sequence[Turn], mark: Mark) -> Optional[Found]:
+    def find(self, turns: Sequence[Turn], mark: Mark) -> Optional[FoundTurn]:
         return find(self.points(turns), mark, lambda at: self.runs.meaning.called(turns[at]))
 
     def where(self, row: Row) -> str:
         return self.runs.meaning.point(row).place()
 
-    def look(self, mark: Mark) -> tuple[List[Turn], Optional[Found]]:
+    def look(self, mark: Mark) -> tuple[List[Turn], Optional[FoundTurn]]:
         """The turns that a mark's hart takes here, and which is the mark's. Another build may take
         more of them up to it."""
         most = LEAST_TURNS

@@ -6,13 +6,13 @@ from itertools import islice
 from typing import Callable, Dict, Iterator, List, NamedTuple, Optional, Tuple
 
 from ..call.text import counted
-from .marks import ATOMIC, NO_SYMBOL, STORE, Mark, Point, Points, count_of, on_line
+from .marks import ATOMIC, NO_SYMBOL, STORE, Mark, Point, Points, fitting_count, on_line
 
 ALIKE = 0.6                 # lines whose texts are so near are taken for one that was changed
 MOST_TEXTS = 1000           # lines of a function that are compared
 
 
-class Found(NamedTuple):
+class FoundTurn(NamedTuple):
     """The turn that is a mark's, and what is told of it."""
     turn: int
     how: str
@@ -32,7 +32,7 @@ def nth_of(points: Points, fits: Callable[[Point], bool], nth: int) -> Optional[
     return next(islice(all_of(points, fits), nth - 1, None), None)
 
 
-def wanted_of(mark: Mark) -> List[Tuple[Point, int]]:
+def marked_turns(mark: Mark) -> List[Tuple[Point, int]]:
     """What is looked for: the point of the switch, else what has to have come before it."""
     return [(mark.point, mark.nth)] + ([(mark.after, mark.nth_after)] if mark.after else [])
 
@@ -43,9 +43,10 @@ def other_accesses(wanted: Point) -> Tuple[str, ...]:
     return (STORE,) if wanted.access == ATOMIC else (ATOMIC,)
 
 
-def find(points: Points, mark: Mark, called: Callable[[int], Tuple[str, ...]]) -> Optional[Found]:
+def find(points: Points, mark: Mark,
+         called: Callable[[int], Tuple[str, ...]]) -> Optional[FoundTurn]:
     """By its line, under its callers if it has some there: `called` tells those of a turn."""
-    for wanted, nth in wanted_of(mark):
+    for wanted, nth in marked_turns(mark):
         at = None
         if wanted.callers and wanted is mark.point:
             there = (one for one in all_of(points, lambda one: is_there(one, wanted))
@@ -58,7 +59,7 @@ def find(points: Points, mark: Mark, called: Callable[[int], Tuple[str, ...]]) -
             at = nth_of(points, lambda one: one.access in others and one.symbol == wanted.symbol
                         and one.is_line_of(wanted), nth)
         if at is not None:
-            return Found(at, told(points[at], wanted, mark))
+            return FoundTurn(at, told(points[at], wanted, mark))
     return None
 
 
@@ -75,34 +76,34 @@ def told(found: Optional[Point], wanted: Point, mark: Mark) -> str:
             else f"{said}, by what it has to come after: {found.place()}")
 
 
-def find_like(points: Points, mark: Mark) -> Optional[Found]:
+def find_like(points: Points, mark: Mark) -> Optional[FoundTurn]:
     """By a line of the function that is like it, by its access of the object alone, or by its text
     in another function or of another object."""
     return next((found for found in (*alike(points, mark), *renamed(points, mark)) if found), None)
 
 
-def alike(points: Points, mark: Mark) -> Iterator[Optional[Found]]:
-    for wanted, nth in wanted_of(mark):
+def alike(points: Points, mark: Mark) -> Iterator[Optional[FoundTurn]]:
+    for wanted, nth in marked_turns(mark):
         near = near_line(points, wanted)
         if near:
             at = nth_of(points,
                         lambda one: one.symbol == wanted.symbol and is_text_of(one, near), nth)
-            yield (Found(at, f"the line is another now: {near.place()}   {near.text}")
+            yield (FoundTurn(at, f"the line is another now: {near.place()}   {near.text}")
                    if at is not None else None)
         if wanted is mark.point and wanted.symbol != NO_SYMBOL:
             at = nth_of(points, lambda one: one.is_access_of(wanted)
                         and one.function == wanted.function, mark.in_function)
             one = points[at] if at is not None else None
             if at is not None and one:
-                yield Found(at, f"by its {wanted.what()} alone, now {one.place()}")
+                yield FoundTurn(at, f"by its {wanted.what()} alone, now {one.place()}")
 
 
 def is_text_of(one: Point, near: Optional[Point]) -> bool:
     return near is not None and (one.function, one.text) == (near.function, near.text)
 
 
-def renamed(points: Points, mark: Mark) -> Iterator[Optional[Found]]:
-    for wanted, nth in wanted_of(mark):
+def renamed(points: Points, mark: Mark) -> Iterator[Optional[FoundTurn]]:
+    for wanted, nth in marked_turns(mark):
         at = nth_of(points,
                     lambda one: one.access == wanted.access and one.text == wanted.text != "", nth)
         near = near_line(points, wanted) if at is None else None
@@ -113,7 +114,7 @@ def renamed(points: Points, mark: Mark) -> Iterator[Optional[Found]]:
         if at is not None and one:
             what = (f"in {one.function}" if one.function != wanted.function
                     else f"of {one.symbol}, not {wanted.symbol}")
-            yield Found(at, f"renamed, it seems: {one.access} {what}, now {one.place()}")
+            yield FoundTurn(at, f"renamed, it seems: {one.access} {what}, now {one.place()}")
 
 
 def near_line(points: Points, wanted: Point) -> Optional[Point]:
@@ -129,12 +130,12 @@ def near_line(points: Points, wanted: Point) -> Optional[Point]:
 def missing(points: Points, mark: Mark) -> str:
     """Why a mark has no place any more."""
     wanted = mark.point
-    times = max(on_line(points, wanted), count_of(points, lambda one: one.is_access_of(wanted)
-                                                  and one.function == wanted.function))
+    times = max(on_line(points, wanted), fitting_count(points, lambda one: one.is_access_of(wanted)
+                                                       and one.function == wanted.function))
     if not times and wanted.symbol != NO_SYMBOL:        # `find` takes these too
         others = other_accesses(wanted)
-        times = count_of(points, lambda one: one.access in others and one.symbol == wanted.symbol
-                         and one.is_line_of(wanted))
+        times = fitting_count(points, lambda one: one.access in others
+                              and one.symbol == wanted.symbol and one.is_line_of(wanted))
     if times:
         return f"hart {mark.hart} does it {counted(times, 'time')}, not {mark.nth}"
     met = [one for one in points if one and one.function == wanted.function]

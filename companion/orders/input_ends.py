@@ -15,7 +15,7 @@ from ..recording.elf import Elf
 from ..recording.log import Log
 from ..recording.recent import LogFile
 from .record import FAULT, LIMIT, Quick
-from .same_end import CALLS_ROWS, Faulted, Over, Recording, exit_code
+from .same_end import CALLS_ROWS, Faulted, Over, EndedRecording, common_exit_code
 
 LOOP_ROWS = 4000            # of so many last rows of a hang the addresses are compared
 PC = re.compile(rb"^0 \d+ (\w{8}) ", re.M)
@@ -25,25 +25,25 @@ HART = 0
 
 
 @dataclass(frozen=True)
-class Loop:
+class LoopEnd:
     """The addresses of the last rows of a hang. A run that stays among them is in the same loop."""
     addresses: frozenset[bytes]
 
     def is_like(self, other: object) -> bool:
-        return isinstance(other, Loop) and other.addresses <= self.addresses
+        return isinstance(other, LoopEnd) and other.addresses <= self.addresses
 
 
 @dataclass(frozen=True)
-class Fault:
+class FaultEnd:
     """A fault's end, and the address of the last row, which is told at once."""
     end: Faulted
     pc: bytes
 
     def is_like(self, other: object) -> bool:
-        return isinstance(other, Fault) and self.end.is_like(other.end)
+        return isinstance(other, FaultEnd) and self.end.is_like(other.end)
 
 
-InputEnd = Union[Fault, Loop, Over]
+InputEnd = Union[FaultEnd, LoopEnd, Over]
 
 
 class InputEnds:
@@ -55,37 +55,37 @@ class InputEnds:
         self.elf = elf
         self.says = says
 
-    def rough(self, made: Recording) -> Hashable:
+    def rough(self, made: EndedRecording) -> Hashable:
         end = made.read.ends[HART]
         if self.says:
-            return made.status, exit_code(made.read.ends), self.says in self.written(made)
+            return made.status, common_exit_code(made.read.ends), self.says in self.written(made)
         if made.status == FAULT:
             return made.status, end.reason, end.value < NULL
-        return made.status, 0 if made.status == LIMIT else exit_code(made.read.ends)
+        return made.status, 0 if made.status == LIMIT else common_exit_code(made.read.ends)
 
-    def written(self, made: Recording) -> bytes:
+    def written(self, made: EndedRecording) -> bytes:
         """What the run wrote to both of its streams. The last line on err is the program's
         summary."""
         return (Path(made.said).read_bytes()
                 + Path(made.err).read_bytes().rstrip(b"\n").rpartition(b"\n")[0])
 
-    def exact(self, made: Recording, wanted: Optional[InputEnd] = None) -> InputEnd:
+    def exact(self, made: EndedRecording, wanted: Optional[InputEnd] = None) -> InputEnd:
         """How it ends. If the last row isn't that of another that is wanted, no more is read."""
         if self.says or made.status not in (FAULT, LIMIT):
             return Over()
         if made.status == LIMIT:
-            return Loop(frozenset(PC.findall(self.last_text(made, LOOP_ROWS)[0])[-LOOP_ROWS:]))
+            return LoopEnd(frozenset(PC.findall(self.last_text(made, LOOP_ROWS)[0])[-LOOP_ROWS:]))
         text, is_cut = self.last_text(made, 1)
         pc = PC.findall(text, text.rfind(b"\n"))[0]
         # (a jump to an address without code can lead anywhere)
-        if isinstance(wanted, Fault) and wanted.pc != pc and wanted.end.reason != "FetchOutside":
+        if isinstance(wanted, FaultEnd) and wanted.pc != pc and wanted.end.reason != "FetchOutside":
             return Over()
         if is_cut:
             text, is_cut = self.last_text(made, CALLS_ROWS)
         cause = cause_along([text], HART, made.read.ends[HART])
-        return Fault(Faulted(cause.reason, cause.pc, cause.functions(self.elf), is_cut), pc)
+        return FaultEnd(Faulted(cause.reason, cause.pc, cause.functions(self.elf), is_cut), pc)
 
-    def last_text(self, made: Recording, rows: int) -> tuple[bytes, bool]:
+    def last_text(self, made: EndedRecording, rows: int) -> tuple[bytes, bool]:
         """The rows of the last intervals that hold so many, and whether there are rows before."""
         log: Log = LogFile(made.log, self.quick.folder).end(rows)
         text = self.quick.text("joint", "--", log.name, self.elf.name)

@@ -4,7 +4,7 @@ from __future__ import annotations
 import re
 from typing import Callable, Iterator, List, Sequence, Tuple
 
-from .input_ends import Loop
+from .input_ends import LoopEnd
 from .input_tries import InputTries
 
 WORDS = re.compile(rb"\w+|[ \t]+|.", re.S)
@@ -30,14 +30,14 @@ class InputSearch:
         """First what takes off most: some tens of tries for any length."""
         if self.takes(b""):
             return
-        if isinstance(self.tries.wanted, Loop):
+        if isinstance(self.tries.wanted, LoopEnd):
             self.tries.lower_limit(self.best)
         self.halve(lambda data, size: data[:size])
         self.halve(lambda data, size: data[len(data) - size:])
         before = -1
         while before != len(self.best) and not self.tries.is_ended():
             before = len(self.best)
-            if isinstance(self.tries.wanted, Loop):
+            if isinstance(self.tries.wanted, LoopEnd):
                 self.tries.lower_limit(self.best)
             self.cut(self.best.splitlines(True))
             self.leave_groups()

@@ -10,7 +10,7 @@ from typing import Dict, Hashable, Iterable, Iterator, Mapping, NamedTuple, Opti
 from ..call.errors import NO_INTERVAL, CompanionError
 from .input_ends import InputEnd, InputEnds
 from .record import LIMIT
-from .same_end import Over, Recording
+from .same_end import Over, EndedRecording
 from .side_by_side import Attempt, SideBySide
 
 # A run may do a quarter more instructions than the recorded one, and so many
@@ -20,7 +20,7 @@ LEAST_LIMIT = 1000          # to which the limit of a run that hangs is lowered
 MOST_INTERVAL = 20000       # instructions, so that the last interval is soon read
 
 
-class Held(NamedTuple):
+class HeldInput(NamedTuple):
     """A try that ends as wanted: which of the candidates it is, and its input."""
     number: int
     data: bytes
@@ -49,13 +49,13 @@ class InputTries(SideBySide[Attempt, bytes]):
         return Attempt(self.ends.quick, self.options, self.ends.elf.name, self.started - 1,
                        asked, True)
 
-    def record(self, data: bytes) -> Recording:
+    def record(self, data: bytes) -> EndedRecording:
         """A recording whose files stay."""
         one = self.begin(data)
         one.wait()
         return one.made()
 
-    def want(self, made: Recording) -> None:
+    def want(self, made: EndedRecording) -> None:
         """From here on a try is wanted that ends as this recording, and doesn't take much
         longer."""
         self.rough = self.ends.rough(made)
@@ -83,7 +83,7 @@ class InputTries(SideBySide[Attempt, bytes]):
         finally:
             one.remove()
 
-    def ends_as_wanted(self, made: Recording) -> bool:
+    def ends_as_wanted(self, made: EndedRecording) -> bool:
         if self.ends.rough(made) != self.rough:
             return False
         try:
@@ -93,12 +93,12 @@ class InputTries(SideBySide[Attempt, bytes]):
                 return False
             raise
 
-    def first(self, candidates: Iterable[bytes], most: int) -> Optional[Held]:
+    def first(self, candidates: Iterable[bytes], most: int) -> Optional[HeldInput]:
         """The first of at most so many candidates that ends as wanted."""
         numbers: list[int] = []
         with closing(self.in_order(self.unknown(islice(candidates, most), numbers),
                                    self.judged)) as judged:
-            return next((Held(numbers[at], one.data)
+            return next((HeldInput(numbers[at], one.data)
                          for at, one in enumerate(judged) if one and one.is_wanted), None)
 
     def unknown(self, candidates: Iterable[bytes], numbers: list[int]) -> Iterator[bytes]:

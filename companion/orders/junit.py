@@ -8,7 +8,7 @@ from typing import Any, Dict, List, Optional, Sequence
 from ..call.errors import UNSURE
 from ..call.kinds import text_kind
 from ..call.xml_text import xml_attribute, xml_text
-from .verdict import HOLDS, Checked, answer, lines
+from .verdict import HOLDS, Checked, verdict_answer, lines
 
 BEGINS = '<?xml version="1.0" encoding="utf-8"?>\n<testsuite name="zelkuma recheck"'
 JUNIT = text_kind("a report of recheck", re.escape(BEGINS), "</testsuite>\n", "<testsuite ")
@@ -38,16 +38,17 @@ class Result:
         return self.found.verdict if self.found else self.refused
 
     def answer(self) -> Dict[str, Any]:
-        return {"order": self.name, **(answer(self.found) if self.found else
-                                       {"status": self.status, "refused": self.refused})}
+        return {"order": self.name, **(verdict_answer(self.found) if self.found
+                                       else {"status": self.status, "refused": self.refused})}
 
 
-def junit_text(results: Sequence[Result]) -> str:
+def orders_junit(results: Sequence[Result]) -> str:
     failed, errors = (sum(map(is_so, results)) for is_so in (is_failed, is_error))
     said = [f'{BEGINS} tests="{len(results)}" failures="{failed}" errors="{errors}">']
     for result in results:
         program = result.found.order.program if result.found else ""
-        said.append(f"<testcase classname={xml_attribute(program)} name={xml_attribute(result.name)}>")
+        said.append(f"<testcase classname={xml_attribute(program)} "
+                    f"name={xml_attribute(result.name)}>")
         said += [outcome(result), "</testcase>"]
     return "\n".join(said + ["</testsuite>", ""])
 

@@ -168,13 +168,13 @@ class Order:
         return int(self.settings.get("--harts", "1"))
 
 
-def count_of(points: Points, fits: Callable[[Point], bool]) -> int:
+def fitting_count(points: Points, fits: Callable[[Point], bool]) -> int:
     return sum(1 for one in points if one and fits(one))
 
 
 def on_line(points: Points, wanted: Point) -> int:
     """How many of the turns are such an access of the object on this line."""
-    return count_of(points, lambda one: one.is_access_of(wanted) and one.is_line_of(wanted))
+    return fitting_count(points, lambda one: one.is_access_of(wanted) and one.is_line_of(wanted))
 
 
 def mark_of(hart: int, points: Points, earlier: int = 0,
@@ -187,9 +187,9 @@ def mark_of(hart: int, points: Points, earlier: int = 0,
     point: Point = wanted
     upto = points[:len(points) - earlier]
     needed = upto[-1] if upto else None
-    in_function = count_of(points,
-                           lambda one: one.is_access_of(point) and one.function == point.function)
-    under = count_of(points, lambda one: one.is_access_of(point) and one.is_line_of(point)
-                     and one.callers == point.callers)
+    in_function = fitting_count(points, lambda one: one.is_access_of(point)
+                                and one.function == point.function)
+    under = fitting_count(points, lambda one: one.is_access_of(point) and one.is_line_of(point)
+                          and one.callers == point.callers)
     return Mark(hart, point, on_line(points, point), in_function, under, needed,
                 on_line(upto, needed) if needed else 1, before)

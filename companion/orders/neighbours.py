@@ -8,7 +8,7 @@ from itertools import islice, zip_longest
 from typing import Iterator, List, Optional
 
 from ..recording.turns import Piece, Pieces, again_at, joined
-from .runs import Asked
+from .runs import AskedTurns
 from .windows import SLACK, shifted
 
 # Turns by which one switch is moved at most, and each of several
@@ -19,7 +19,7 @@ BURSTS = 4, 24                          # so many at least and at most
 MOST_HARTS_MOVED = 3                    # switches at once: with more it is another order, none near
 
 
-def neighbours(pieces: Pieces, harts: int, most: int) -> List[Asked]:
+def neighbours(pieces: Pieces, harts: int, most: int) -> List[AskedTurns]:
     """So many, of four kinds in turn."""
     kinds = (one_moved(pieces), several_moved(pieces, random.Random(1)),
              bursts(pieces, harts, random.Random(2)), drawn())
@@ -27,15 +27,15 @@ def neighbours(pieces: Pieces, harts: int, most: int) -> List[Asked]:
     return list(islice(in_turn, most))
 
 
-def one_moved(pieces: Pieces) -> Iterator[Asked]:
+def one_moved(pieces: Pieces) -> Iterator[AskedTurns]:
     for far in range(1, FARTHEST + 1):
         for at in range(len(pieces) - 1):
             for by in (-far, far):
                 if can_move(pieces, at, by):
-                    yield Asked(shifted(pieces, at, by, SLACK))
+                    yield AskedTurns(shifted(pieces, at, by, SLACK))
 
 
-def several_moved(pieces: Pieces, draw: random.Random) -> Iterator[Optional[Asked]]:
+def several_moved(pieces: Pieces, draw: random.Random) -> Iterator[Optional[AskedTurns]]:
     switches = len(pieces) - 1
     while switches > 1:
         found = pieces
@@ -43,7 +43,7 @@ def several_moved(pieces: Pieces, draw: random.Random) -> Iterator[Optional[Aske
             by = draw.choice((-1, 1)) * draw.randint(1, TOGETHER)
             moved = shifted(found, at, by, 0) if can_move(found, at, by) else found
             found = moved if len(moved) == len(found) else found
-        yield Asked(found) if found != pieces else None
+        yield AskedTurns(found) if found != pieces else None
 
 
 def can_move(pieces: Pieces, at: int, by: int) -> bool:
@@ -52,19 +52,19 @@ def can_move(pieces: Pieces, at: int, by: int) -> bool:
     return pieces[at].turns + by > 0 and (again < 0 or pieces[again].turns - by > 0)
 
 
-def bursts(pieces: Pieces, harts: int, draw: random.Random) -> Iterator[Asked]:
+def bursts(pieces: Pieces, harts: int, draw: random.Random) -> Iterator[AskedTurns]:
     """The order up to a switch, which is moved, too."""
     while pieces:
         at = draw.randrange(len(pieces))
         cut = max(1, pieces[at].turns + draw.randint(-TOGETHER, TOGETHER))
         rest = [Piece(draw.randrange(harts), draw.choice(LENGTHS))
                 for _ in range(draw.randint(*BURSTS))]
-        yield Asked(joined([*pieces[:at], Piece(pieces[at].hart, cut), *rest]))
+        yield AskedTurns(joined([*pieces[:at], Piece(pieces[at].hart, cut), *rest]))
 
 
-def drawn() -> Iterator[Asked]:
+def drawn() -> Iterator[AskedTurns]:
     number = 0
     while True:
         number += 1
-        yield from (Asked(schedule=f"sleeper:{number}"),
-                    Asked(schedule=f"bursts:{number}"), Asked(seed=number))
+        yield from (AskedTurns(schedule=f"sleeper:{number}"),
+                    AskedTurns(schedule=f"bursts:{number}"), AskedTurns(seed=number))

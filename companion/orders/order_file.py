@@ -13,7 +13,7 @@ from typing import Any, Callable, Dict, List, NoReturn, Optional, Pattern, Seque
 
 from ..call.errors import REFUSED, CompanionError
 from ..call.files import check_regular
-from ..call.kinds import Kind
+from ..call.kinds import FileKind
 from ..call.options import decimal
 from ..call.saving import Target, save_together, target
 from ..call.text import clean
@@ -49,7 +49,7 @@ ESCAPES = {"n": 10, "t": 9, "\\": 92, '"': 34}
 ESCAPE = re.compile(rb'\\(?:x([0-9a-f]{2})|([nt\\"]))')
 
 
-def quoted(data: bytes) -> str:
+def quoted_name(data: bytes) -> str:
     """Bytes as a word in quotes."""
     letters = {value: "\\" + letter for letter, value in ESCAPES.items()}
     return '"' + "".join(letters.get(c) or (chr(c) if 32 <= c < 127 else f"\\x{c:02x}")
@@ -67,9 +67,9 @@ def unquoted(word: str) -> bytes:
                                            else ESCAPES[found[2].decode()]]), data[1:-1])
 
 
-def word_of(name: str) -> str:
+def quoted_word(name: str) -> str:
     """A name as a word: in quotes if it needs them."""
-    return name if re.fullmatch(BARE, name) else quoted(name.encode())
+    return name if re.fullmatch(BARE, name) else quoted_name(name.encode())
 
 
 def name_of(word: str) -> str:
@@ -81,12 +81,12 @@ def name_of(word: str) -> str:
 
 
 def place_text(point: Point, counts: str = "") -> str:
-    line = f" {word_of(point.file)}:{point.line}" if point.line else ""
-    return word_of(point.function) + counts + line + (f" | {point.text}" if point.text else "")
+    line = f" {quoted_word(point.file)}:{point.line}" if point.line else ""
+    return quoted_word(point.function) + counts + line + (f" | {point.text}" if point.text else "")
 
 
 def point_text(point: Point, counts: str = "") -> str:
-    symbol = "" if point.symbol == NO_SYMBOL else " " + word_of(point.symbol)
+    symbol = "" if point.symbol == NO_SYMBOL else " " + quoted_word(point.symbol)
     return f"{point.access}{symbol} in {place_text(point, counts)}"
 
 
@@ -101,7 +101,7 @@ def mark_lines(mark: Mark) -> List[str]:
     said = [f"hart {mark.hart} until "
             f"{point_text(mark.point, counts_text(mark.nth, mark.in_function))}"]
     if mark.point.callers:
-        under = " < ".join(map(word_of, mark.point.callers))
+        under = " < ".join(map(quoted_word, mark.point.callers))
         said.append(f"  under {under}" + (f" #{mark.under}" if mark.under != 1 else ""))
     if mark.after:
         said.append("  not before "
@@ -114,8 +114,8 @@ def end_lines(end: Ended) -> List[str]:
         said = [f"end fault {end.reason}" + (f" in {place_text(end.point)}" if end.point else "")]
         return said + ([f"  from {place_text(end.caller)}"] if end.caller else [])
     if end.kind == LIMIT:
-        return ["end limit"] + ["  hart %d waits for "
-                                "%s" % (hart, " ".join(map(word_of, words)) if words else NO_SYMBOL)
+        return ["end limit"] + ["  hart %d waits for %s"
+                                % (hart, " ".join(map(quoted_word, words)) if words else NO_SYMBOL)
                                 for hart, words in end.waits]
     return [f"end exit {end.value}" if end.kind == EXIT else f"end output {end.place} {end.value}"]
 
@@ -125,15 +125,15 @@ def input_lines(order: Order, name: str) -> List[str]:
     if order.input is None:
         return []
     if len(order.input) > LONGEST_TEXT:
-        return [f"input-file {word_of(os.path.basename(name) + INPUT_SUFFIX)}"]
+        return [f"input-file {quoted_word(os.path.basename(name) + INPUT_SUFFIX)}"]
     parts = [line[at:at + PART] for line in order.input.splitlines(True)
              for at in range(0, len(line), PART)]
-    return [f"input {quoted(part)}" for part in parts or [b""]]
+    return [f"input {quoted_name(part)}" for part in parts or [b""]]
 
 
 def order_text(order: Order, name: str) -> str:
     """What a file of this name gets."""
-    said = [HEAD, f"program {word_of(order.program)}"]
+    said = [HEAD, f"program {quoted_word(order.program)}"]
     said += (["set " + " ".join(f"{option}={value}" for option, value in order.settings.items())]
              if order.settings else [])
     said += input_lines(order, name)
@@ -152,7 +152,7 @@ def is_order(name: str) -> bool:
     return True
 
 
-ORDER = Kind("an order of harts", is_order)
+ORDER = FileKind("an order of harts", is_order)
 
 
 @dataclass(frozen=True)
@@ -178,7 +178,7 @@ def targets_of(name: str, input_name: str, read: Sequence[str]) -> Targets:
 def input_target(name: str, data: bytes, read: Sequence[str]) -> Target:
     """The file of an input, beside one of a name. An old one is kept unless it is the same."""
     return target(name + INPUT_SUFFIX,
-                  Kind("the same input", lambda old: Path(old).read_bytes() == data), read)
+                  FileKind("the same input", lambda old: Path(old).read_bytes() == data), read)
 
 
 @dataclass
@@ -244,7 +244,7 @@ class Reading:
         self.put(end=end)
 
     def fault(self, found: Dict[str, str]) -> None:
-        point = place_of(FAULT, found) if found["function"] else None
+        point = marked_place(FAULT, found) if found["function"] else None
         self.end(Ended(FAULT, found["reason"], point))
         self.open = FAULT
 
@@ -253,7 +253,7 @@ class Reading:
         if self.open != FAULT or end is None:
             self.refuse("it has to stand below 'end fault'")
         self.once(end.caller is not None, "what called it")
-        self.put(end=end._replace(caller=place_of(FAULT, found)))
+        self.put(end=end._replace(caller=marked_place(FAULT, found)))
 
     def limit(self, _: Dict[str, str]) -> None:
         self.end(Ended(LIMIT))
@@ -324,14 +324,14 @@ class Reading:
         self.put(last=self.hart(found))
 
 
-def place_of(access: str, found: Dict[str, str], symbol: str = NO_SYMBOL) -> Point:
+def marked_place(access: str, found: Dict[str, str], symbol: str = NO_SYMBOL) -> Point:
     file, line = (name_of(found["file"]), int(found["line"])) if found["file"] else ("", 0)
     return Point(access, symbol, name_of(found["function"]), file, line, clean(found["text"] or ""))
 
 
 def point_of(found: Dict[str, str]) -> Point:
-    return place_of(found["access"], found,
-                    name_of(found["symbol"]) if found["symbol"] else NO_SYMBOL)
+    return marked_place(found["access"], found,
+                        name_of(found["symbol"]) if found["symbol"] else NO_SYMBOL)
 
 
 # The lines of a file, each with what reads it. The last two blanks of a line that belongs to
@@ -384,7 +384,7 @@ def why_none(data: bytes) -> str:
     return f"it has over {LARGEST} bytes" if len(data) > LARGEST else "it isn't UTF-8"
 
 
-def lines_of(name: str) -> List[str]:
+def order_lines(name: str) -> List[str]:
     check_regular(name)
     with open(name, "rb") as file:
         data = file.read(LARGEST + 1)
@@ -398,7 +398,7 @@ def lines_of(name: str) -> List[str]:
 
 
 def read_order(name: str) -> Order:
-    lines = lines_of(name)
+    lines = order_lines(name)
     reading = Reading(name)
     for number, line in enumerate(lines[1:], 2):
         try:

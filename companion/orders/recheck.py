@@ -24,20 +24,20 @@ from ..recording.opened import Program
 from ..recording.sources import source_folders
 from ..recording.turns import pieces_of
 from ..why.facts import asked_byte
-from .junit import JUNIT, Result, junit_text
+from .junit import JUNIT, Result, orders_junit
 from .marks import WELL, Order
 from .meaning import Meaning
 from .order_file import DEFAULTS, SUFFIX, input_target, read_order, targets_of
 from .record import Quick
-from .runs import Asked, Runs
+from .runs import AskedTurns, Runs
 from .same_end import Ends
 from .search import Search
-from .shrink import check as check_recording
+from .shrink import check_words as check_recording
 from .shrink import recorded_options
 from .shrinking import MEMORY_FOLDER, offset_of
 from .told_order import Telling
 from .tries import Tries
-from .verdict import HOLDS, MOST_TRIES, TRIES, Checked, answer, check, lines
+from .verdict import HOLDS, MOST_TRIES, TRIES, Checked, verdict_answer, checked_order, lines
 
 HELP = Help(
     "recheck LOG ELF BOOK NEW | ORDER NEW | FOLDER --elfs DIR [--tries N] [--input FILE] "
@@ -86,7 +86,7 @@ IN_FILE = 2
 
 
 @dataclass(frozen=True)
-class Work:
+class RecheckWork:
     """What each check needs: a maker of recordings, how many orders near one are tried, and folders
     of sources."""
     quick: Quick
@@ -118,7 +118,7 @@ def saved_as(name: str, order: Order, input_name: str, read: Sequence[str]) -> S
 
 
 def recorded_order(names: Sequence[str], given: Mapping[str, str],
-                   work: Work) -> Tuple[Order, List[str]]:
+                   work: RecheckWork) -> Tuple[Order, List[str]]:
     """The order of LOG, ELF and BOOK, and what is to be said of its lines."""
     log, elf_name, book = names
     words = ["--input", given["--input"]] if "--input" in given else []
@@ -144,7 +144,7 @@ def recorded_order(names: Sequence[str], given: Mapping[str, str],
     return order, trouble
 
 
-def check_build(order: Order, new: str, names: str, work: Work,
+def check_build(order: Order, new: str, names: str, work: RecheckWork,
                 saved: Optional[Saved] = None) -> Tuple[Checked, List[str]]:
     """What is found of a build, and what else is to be said."""
     options: Dict[str, str] = {**DEFAULTS, **order.settings}
@@ -154,14 +154,14 @@ def check_build(order: Order, new: str, names: str, work: Work,
     with closing(Program(new, names, work.folders)) as program:
         meaning = Meaning(program)
         runs = Runs(work.quick, meaning, options, order.end, work.jobs)
-        found = check(runs, order, work.tries)
-        more = save(found, runs, saved) if saved and found.shown else []
+        found = checked_order(runs, order, work.tries)
+        more = save_results(found, runs, saved) if saved and found.shown else []
         return found, more + meaning.trouble()
 
 
-def save(found: Checked, runs: Runs, saved: Saved) -> List[str]:
+def save_results(found: Checked, runs: Runs, saved: Saved) -> List[str]:
     """Saves the run that ends badly, and tells how it is made again."""
-    made = runs.record(found.shown.first if found.shown else Asked())
+    made = runs.record(found.shown.first if found.shown else AskedTurns())
     files = [(saved.log, Path(made.log).read_bytes()), (saved.book, Path(made.book).read_bytes())]
     if saved.input and found.order.input is not None:
         files.append((saved.input, found.order.input))
@@ -169,16 +169,16 @@ def save(found: Checked, runs: Runs, saved: Saved) -> List[str]:
     return ["saved; made again by: " + runs.command(saved.book.name, saved.input_name)]
 
 
-def put(found: Checked, more: Sequence[str], is_json: bool) -> None:
+def put_results(found: Checked, more: Sequence[str], is_json: bool) -> None:
     if is_json:
-        put_answer("recheck", orders=[answer(found)])
+        put_answer("recheck", orders=[verdict_answer(found)])
         for line in more:
             streams.say(line)
     else:
         streams.put_lines([*lines(found), *more])
 
 
-def check_one(names: Sequence[str], given: Mapping[str, str], work: Work) -> List[Result]:
+def check_one(names: Sequence[str], given: Mapping[str, str], work: RecheckWork) -> List[Result]:
     *first, new = names
     input_name = given.get("--input", "")
     read = [*names, input_name]
@@ -195,7 +195,7 @@ def check_one(names: Sequence[str], given: Mapping[str, str], work: Work) -> Lis
     found, more = check_build(order, new, given.get("--names", ""), work, saved)
     if found.shown and not saved and "--json" not in given:
         more.append("--save NAME saves that run, and tells how it is made again")
-    put(found, [*dict.fromkeys(trouble + more)], "--json" in given)
+    put_results(found, [*dict.fromkeys(trouble + more)], "--json" in given)
     return [Result(first[0], found)]
 
 
@@ -208,7 +208,7 @@ def find_build(folder: str, program: str) -> str:
     return found[0]
 
 
-def check_folder(folder: str, given: Mapping[str, str], work: Work) -> List[Result]:
+def check_folder(folder: str, given: Mapping[str, str], work: RecheckWork) -> List[Result]:
     """Checks each order of a folder. One that can't be checked is told, and the others are."""
     names = sorted(str(name) for name in Path(folder).rglob("*" + SUFFIX))
     if not names or len(names) > MOST_ORDERS:
@@ -232,7 +232,7 @@ def check_folder(folder: str, given: Mapping[str, str], work: Work) -> List[Resu
     return found
 
 
-def status_of(results: Sequence[Result]) -> int:
+def recheck_status(results: Sequence[Result]) -> int:
     """The first bad end's, else that of one that isn't sure or can't be checked."""
     all_of_them = [result.status for result in results if result.status != HOLDS]
     return next((status for status in all_of_them if status != UNSURE),
@@ -256,9 +256,9 @@ def main(words: List[str]) -> int:
     junit = target(given["--junit"], JUNIT, names) if "--junit" in given else None
     with Scratch(MEMORY_FOLDER if os.access(MEMORY_FOLDER, os.W_OK)
                  else "") as folder, Quick(folder) as quick:
-        work = Work(quick, tries, source_folders(given))
+        work = RecheckWork(quick, tries, source_folders(given))
         results = (check_folder(names[0], given, work) if wanted == 1
                    else check_one(names, given, work))
     if junit:
-        junit.save(junit_text(results).encode())
-    return status_of(results)
+        junit.save(orders_junit(results).encode())
+    return recheck_status(results)

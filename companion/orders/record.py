@@ -9,7 +9,7 @@ from pathlib import Path
 from typing import NamedTuple, Sequence
 
 from ..call import program
-from ..call.children import Group, Process
+from ..call.children import ProcessGroup, Process
 from ..call.errors import REFUSED, UNREADABLE, CompanionError
 from ..call.files import check_regular
 from ..call.kinds import LOG, TURNS
@@ -123,11 +123,11 @@ class Quick:
 
     def __init__(self, folder: str) -> None:
         self.folder = folder
-        self.group: Group
+        self.group: ProcessGroup
         self.environment = {name: value for name, value in os.environ.items() if name != SCHEDULE}
 
     def __enter__(self) -> Quick:
-        self.group = Group()
+        self.group = ProcessGroup()
         return self
 
     def __exit__(self, *_: object) -> None:

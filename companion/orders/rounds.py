@@ -28,7 +28,7 @@ class Rounds:
         self.places: list[bytes] = []
         for hart, turns in pieces:
             done[hart] += turns
-            self.places.append(place_of(lines[hart][done[hart] - 1]))
+            self.places.append(round_place(lines[hart][done[hart] - 1]))
 
     def lines(self, pieces: Pieces, hart: int) -> list[bytes]:
         """The line with which each turn of a hart ended, in a run that begins with some pieces."""
@@ -60,13 +60,13 @@ class Rounds:
             lines = self.lines(joined((*first, Piece(hart, 2 * self.most[hart]))),
                                hart)[done:done + 2 * self.most[hart]]
             turns = next((turn for turn, line in enumerate(lines, 1)
-                          if place_of(line) == self.places[at]), 0)
+                          if round_place(line) == self.places[at]), 0)
             if not turns:
                 return None
             first = joined((*first, Piece(hart, turns)))
         return first
 
 
-def place_of(line: bytes) -> bytes:
+def round_place(line: bytes) -> bytes:
     """The address of the code, with which a row begins behind its hart and count."""
     return cut(line).key[PC] if line[:1].isdigit() else b""

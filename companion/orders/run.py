@@ -51,7 +51,7 @@ SUMMARY = re.compile(rb"bugnet: (turns \d+ instructions \d+ [^\n]*)\n\Z")
 
 
 @dataclass
-class Step:
+class RunStep:
     """A recording that is done, its limit, and the seconds that it took."""
     status: int
     limit: int
@@ -79,7 +79,7 @@ class Run:
         self.told = 0, 0                        # bytes of out and err that were passed on
         self.stopped = 0
 
-    def record(self, quick: Quick, limit: int, part: str) -> Optional[Step]:
+    def record(self, quick: Quick, limit: int, part: str) -> Optional[RunStep]:
         """One recording, or None if a signal came."""
         made = [os.path.join(quick.folder, f"{part}.{at}") for at in range(2)]
         said = made[0] + ".said"
@@ -97,13 +97,13 @@ class Run:
         with streams.stopping(stop), streams.working(f"up to {limit:,} instructions are recorded"):
             status = child.wait()
         if status in ENDS:
-            return Step(status, limit, time.monotonic() - began, made)
+            return RunStep(status, limit, time.monotonic() - began, made)
         if self.stopped or -status in streams.STOPS:
             self.stopped = self.stopped or -status
             return None
         raise refusal(err, status)
 
-    def pass_on(self, step: Step) -> None:
+    def pass_on(self, step: RunStep) -> None:
         """Passes on what the program wrote since the last step."""
         out, err = (Path(f"{step.files[0]}.{name}").read_bytes() for name in ("said", "err"))
         err = SUMMARY.sub(b"", err)
@@ -111,7 +111,7 @@ class Run:
         streams.put_err(err[self.told[1]:])
         self.told = len(out), len(err)
 
-    def steps(self, quick: Quick) -> Optional[Step]:
+    def steps(self, quick: Quick) -> Optional[RunStep]:
         """Recordings with a limit that rises; the last that is done."""
         done = None
         limit = min(FIRST_LIMIT, self.limit)
@@ -129,7 +129,7 @@ class Run:
                 self.pass_on(done)
             limit = min(limit * STEP, self.limit)
 
-    def nearly(self, quick: Quick, done: Optional[Step], seconds: float) -> Optional[Step]:
+    def nearly(self, quick: Quick, done: Optional[RunStep], seconds: float) -> Optional[RunStep]:
         """After a signal: a recording of nearly what the one had reached that it ended, as far as
         its time tells."""
         if done is None or done.seconds * LEAST_GAIN > seconds:
@@ -139,7 +139,7 @@ class Run:
                     f"a second Ctrl-C keeps {done.limit:,}")
         return self.record(quick, limit, "nearly") or done
 
-    def finish(self, step: Step) -> int:
+    def finish(self, step: RunStep) -> int:
         """Saves the recording, and tells how it ended. The status."""
         summary = last_line(step.files[0] + ".err").partition(": ")[2]
         saved = [(place, name)

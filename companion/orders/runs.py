@@ -20,7 +20,7 @@ from .meaning import Meaning, Turn
 from .record import ENDS, SCHEDULE, Quick, refusal
 from .record import FAULT as STATUS_FAULT
 from .record import LIMIT as STATUS_LIMIT
-from .same_end import Ends, Recording, byte_at, exit_code
+from .same_end import Ends, EndedRecording, byte_at, common_exit_code
 from .waiting import Waiting
 
 DEFAULT_LIMIT = 1000000000  # of record
@@ -34,7 +34,7 @@ LEAST_LOG = 1 << 24         # bytes of a log: all turns up to a mark have to be 
 MOST_LOOK_ROWS = 20000000   # of a hart are replayed for one look
 
 
-class Asked(NamedTuple):
+class AskedTurns(NamedTuple):
     """The turns of a recording: a list, or a schedule or seed that draws them."""
     pieces: Optional[Pieces] = None
     schedule: str = ""
@@ -47,7 +47,7 @@ class Asked(NamedTuple):
 class Done(NamedTuple):
     """How a recording ended; and whether that is with a greater limit, at the first of which it
     came to its end."""
-    asked: Asked
+    asked: AskedTurns
     end: Ended
     is_slow: bool
 
@@ -55,7 +55,7 @@ class Done(NamedTuple):
 class Made(NamedTuple):
     """A recording that is under way."""
     number: int
-    asked: Asked
+    asked: AskedTurns
     times: int
     names: List[str]
     child: Process
@@ -84,7 +84,7 @@ class Runs:
         options.update({} if seed is None else {"--seed": str(seed)})
         return ["record", *(f"{name}={value}" for name, value in options.items())]
 
-    def begin(self, number: int, asked: Asked, limit: int, times: int = 1) -> Made:
+    def begin(self, number: int, asked: AskedTurns, limit: int, times: int = 1) -> Made:
         self.count += 1
         names = [os.path.join(self.quick.folder, f"recheck{self.count}.{kind}")
                  for kind in ("log", "book", "said", "err", "turns")]
@@ -99,17 +99,17 @@ class Runs:
         return Made(number, asked, times, names,
                     self.quick.start(said, err, *words, schedule=schedule))
 
-    def take(self, made: Made, status: int) -> Recording:
+    def take(self, made: Made, status: int) -> EndedRecording:
         if status not in ENDS:
             raise refusal(made.names[3], status, "a recording")
-        return Recording(status, *made.names[:3])
+        return EndedRecording(status, *made.names[:3])
 
-    def record(self, asked: Asked, limit: int = 0) -> Recording:
+    def record(self, asked: AskedTurns, limit: int = 0) -> EndedRecording:
         """A recording whose files stay as long as the folder."""
         made = self.begin(0, asked, limit or self.limit)
         return self.take(made, made.child.wait())
 
-    def ended(self, made: Recording, is_deep: bool = True) -> Ended:
+    def ended(self, made: EndedRecording, is_deep: bool = True) -> Ended:
         """How a recording ended. Only a deep look tells for what a hart waits."""
         wanted = self.wanted
         ends = made.ends
@@ -121,11 +121,11 @@ class Runs:
         if wanted and wanted.kind == OUTPUT:
             is_same = byte_at(made.said, wanted.place) == bytes([wanted.value])
             return wanted if is_same else Ended(WELL)
-        code = exit_code(ends)
+        code = common_exit_code(ends)
         return (Ended(EXIT, value=code) if code and (not wanted or wanted.kind == EXIT)
                 else Ended(WELL))
 
-    def fault(self, made: Recording) -> Ended:
+    def fault(self, made: EndedRecording) -> Ended:
         log = made.read
         hart = next(hart for hart, end in log.ends.items() if is_fault(end.reason))
         found = Ends(self.quick, self.meaning.elf).faulted(log, hart)
@@ -133,17 +133,17 @@ class Runs:
         return Ended(FAULT, found.reason, self.meaning.point(row),
                      caller=self.meaning.caller(found.pc, found.calls))
 
-    def waits(self, made: Recording) -> Tuple[Tuple[int, Tuple[str, ...]], ...]:
+    def waits(self, made: EndedRecording) -> Tuple[Tuple[int, Tuple[str, ...]], ...]:
         exact = Ends(self.quick, self.meaning.elf).exact(made)
         words = exact.words() if isinstance(exact, Waiting) else {}
         return tuple(sorted((hart, tuple(sorted(set(map(self.meaning.name, each)))))
                             for hart, each in words.items()))
 
-    def one(self, asked: Asked) -> Done:
+    def one(self, asked: AskedTurns) -> Done:
         """How a recording ends, whose limit grows before it is called a hang."""
         return next(self.each([asked], is_deep=True))
 
-    def each(self, asked: Sequence[Asked], is_deep: bool = False) -> Iterator[Done]:
+    def each(self, asked: Sequence[AskedTurns], is_deep: bool = False) -> Iterator[Done]:
         """Side by side, and told in their order."""
         waiting: Deque[Tuple[int, int]] = deque((number, 1) for number in range(len(asked)))
         running: Jobs[Made] = Jobs()
@@ -188,7 +188,7 @@ class Runs:
         most_counts = self.limit_of(GROWN)
         limit = min(most_counts, LEAST_LOOK + PER_TURN * (len(prefix) + most))
         while True:
-            made = self.record(Asked(pieces), limit)
+            made = self.record(AskedTurns(pieces), limit)
             turns = made.turns()
             rest = turns[len(prefix):]
             taken = len(rest) - len(rest.lstrip(bytes([hart])))
@@ -199,7 +199,7 @@ class Runs:
             limit = min(most_counts, GROWN * limit)
         return self.turns_of(made, hart, prefix.count(hart), min(taken, most))
 
-    def turns_of(self, made: Recording, hart: int, first: int, most: int) -> List[Turn]:
+    def turns_of(self, made: EndedRecording, hart: int, first: int, most: int) -> List[Turn]:
         """So many turns of a hart from one on. Of those that the log has lost no row is known."""
         log = made.read
         mine = [interval for interval in log.intervals if interval.hart == hart]

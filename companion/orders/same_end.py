@@ -23,7 +23,7 @@ MOST_INTERVALS = 16         # of a hart are replayed
 
 
 @dataclass(frozen=True)
-class Recording:
+class EndedRecording:
     """A recording that was made: its status, and the names of its log, its list of turns, its
     output and what went to err."""
     status: int
@@ -87,7 +87,7 @@ class Ends:
         self.offset = offset
         self.waiting: Optional[AbstractSet[int]] = None
 
-    def rough(self, made: Recording) -> Hashable:
+    def rough(self, made: EndedRecording) -> Hashable:
         """The byte that is asked of; else the fault's name, the harts at their limit, or the exit
         code."""
         if self.offset is not None:
@@ -98,9 +98,9 @@ class Ends:
                     tuple(sorted(end.reason for end in ends.values() if is_fault(end.reason))))
         if made.status == LIMIT:
             return made.status, tuple(self.limited(ends))
-        return made.status, exit_code(ends)
+        return made.status, common_exit_code(ends)
 
-    def exact(self, made: Recording, wanted: Optional[Exact] = None) -> Exact:
+    def exact(self, made: EndedRecording, wanted: Optional[Exact] = None) -> Exact:
         """How it ends. If it doesn't wait as another that is wanted, that alone."""
         if self.offset is not None or made.status not in (FAULT, LIMIT):
             return Over()
@@ -145,7 +145,7 @@ class Ends:
         return b"".join(reversed(pieces)), mine[-len(pieces)].start > 0
 
 
-def exit_code(ends: Mapping[int, End]) -> int:
+def common_exit_code(ends: Mapping[int, End]) -> int:
     """The code that a hart ended all of them with, else that of hart 0."""
     group = [end.value for end in ends.values() if end.reason == "group"]
     if group:

@@ -9,7 +9,7 @@ from . import moves
 from .moves import Move
 from .record import DONE
 from .rounds import Rounds
-from .same_end import Recording
+from .same_end import EndedRecording
 from .tries import ANY, Tries
 from .waiting import Waiting
 from .windows import Window, shifted, sides_of, windows_of
@@ -23,7 +23,7 @@ LEAST_LIMIT = 1000          # to which the limit of a run that hangs is lowered
 class Nearest(NamedTuple):
     """A recording that ends well, and by how many turns which switch was moved, earlier if they are
     below 0."""
-    made: Recording
+    made: EndedRecording
     switch: int
     turns: int
 
@@ -39,7 +39,7 @@ class Search:
     core    its pieces that matter: behind them harts wait for ever
     enough  the limit under which a run that hangs was tried"""
 
-    def __init__(self, tries: Tries, recorded: Recording) -> None:
+    def __init__(self, tries: Tries, recorded: EndedRecording) -> None:
         self.tries = tries
         self.best = pieces_of(recorded.turns())
         self.limit = self.enough = int(tries.options["--limit"])

@@ -78,7 +78,7 @@ HEAD = "status", "count", "first", "place"
 LAST_NUMBER = 2**64 - 1
 
 
-def split(words: list[str]) -> tuple[list[str], list[str]]:
+def split_words(words: list[str]) -> tuple[list[str], list[str]]:
     """The words before the first `--`, with -j as an option of its full name, and those behind
     it."""
     at = words.index("--") if "--" in words else len(words)
@@ -107,7 +107,7 @@ def in_order(counts: Mapping[Ending, Count]) -> list[tuple[Ending, Count]]:
     return sorted(counts.items(), key=lambda item: (item[0].status, item[1].first))
 
 
-def table(counts: Mapping[Ending, Count]) -> str:
+def endings_table(counts: Mapping[Ending, Count]) -> str:
     rows = [HEAD] + [(str(ending.status), number(count.count), str(count.first), ending.place)
                      for ending, count in in_order(counts)]
     widths = [max(len(row[column]) for row in rows) for column in range(3)]
@@ -123,13 +123,13 @@ def said_end(search: TrialSearch) -> str:
     return f"exit:{search.found.code}" if search.found.code else f"status {search.found.status}"
 
 
-def tell(search: TrialSearch) -> None:
+def tell_run(search: TrialSearch) -> None:
     text = ""
     found = search.found
     if found is not None:
         text = f"{found.plan}: {said_end(search)}\n{search.words.shown(found.plan)}\n"
     if search.endings.counts:
-        text += table(search.endings.counts)
+        text += endings_table(search.endings.counts)
     streams.put(text)
 
 
@@ -193,7 +193,7 @@ def tell_json(search: TrialSearch, short: Optional[Shrunk],
                shrunk=short.answer if short else None, compared=difference)
 
 
-def find(search: TrialSearch, is_json: bool, shrinks: bool, good: Sequence[Target]) -> int:
+def find_run(search: TrialSearch, is_json: bool, shrinks: bool, good: Sequence[Target]) -> int:
     """Searches, saves what was found, and tells how the runs ended: as text also those before a
     refusal. The status of a signal that has ended the shrinking, or 0."""
     short = difference = None
@@ -205,7 +205,7 @@ def find(search: TrialSearch, is_json: bool, shrinks: bool, good: Sequence[Targe
                 trial.save()
         finally:
             if not is_json:
-                tell(search)
+                tell_run(search)
     if shrinks and search.found is not None and not search.stopped:
         short = shrunk(search.words, search.found.plan, good)
     if short and not is_json:
@@ -269,7 +269,7 @@ def check_shrinks(asked: str, record: RecordWords, wanted: Optional[Wanted]) -> 
 
 
 def main(words: list[str]) -> int:
-    own, rest = split(words)
+    own, rest = split_words(words)
     if "--" not in words:
         raise CompanionError("the options of record stand behind --, with ELF LOG BOOK; "
                              f"the words are: {HELP.form}", REFUSED)
@@ -291,6 +291,6 @@ def main(words: list[str]) -> int:
     with contextlib.ExitStack() as opened:
         search = TrialSearch(record, numbers, kinds, wanted, jobs,
                              [opened.enter_context(folder) for folder in record.scratch()])
-        stopped = find(search, "--json" in options, bool(shrinks), good)
+        stopped = find_run(search, "--json" in options, bool(shrinks), good)
     return stopped or status_of(search, [name for name, kind in KINDS.items() if kind in kinds],
                                 "--fail" in options)

@@ -21,9 +21,9 @@ from ..recording.sources import source_folders
 from ..why.facts import asked_byte
 from .order_file import targets_of
 from .record import RECORD_OPTIONS
-from .same_end import exit_code
+from .same_end import common_exit_code
 from .shrinking import ShrinkInput, Shrunk, shrink
-from .shrinking_input import Asked, ShrunkInput, shrink_input
+from .shrinking_input import AskedInput, ShrunkInput, shrink_input
 
 HELP = Help(
     "shrink LOG ELF BOOK NEWLOG NEWBOOK | NEW --input FILE [--says TEXT] [--seconds N] "
@@ -84,7 +84,7 @@ def recorded_options(log: str, words: Sequence[str]) -> dict[str, str]:
     return {**settings, **({"--input": given["--input"]} if "--input" in given else {})}
 
 
-def check(log: str, elf: str, book: str, options: Mapping[str, str], has_byte: bool) -> None:
+def check_words(log: str, elf: str, book: str, options: Mapping[str, str], has_byte: bool) -> None:
     if options["--harts"] == "1":
         raise CompanionError("LOG is of one hart, which has one order: there is nothing to shrink; "
                              "NEW --input FILE shrinks its input", REFUSED)
@@ -93,7 +93,7 @@ def check(log: str, elf: str, book: str, options: Mapping[str, str], has_byte: b
                              "and can't be shrunk", REFUSED)
     check_book(log, elf, book, [f"--input={options['--input']}"] if "--input" in options else [])
     ends = load_log(log).ends
-    if not (has_byte or exit_code(ends)
+    if not (has_byte or common_exit_code(ends)
             or any(is_fault(end.reason) or end.reason == "limit" for end in ends.values())):
         raise CompanionError("the run of LOG ended well; "
                              "--output N:BYTE asks for a byte of its output that is wrong", REFUSED)
@@ -109,7 +109,7 @@ def shrink_order(words: list[str]) -> tuple[Mapping[str, str], Union[Shrunk, Shr
     targets = target(new_log, LOG, read), target(new_book, TURNS, [*read, new_log])
     order = (targets_of(given["--order"], options.get("--input", ""), [*read, new_log, new_book])
              if "--order" in given else None)
-    check(log, elf_name, book, options, byte is not None)
+    check_words(log, elf_name, book, options, byte is not None)
     program = Program(elf_name, given.get("--names", ""), source_folders(given))
     return given, shrink(ShrinkInput(log, book, program, options, *targets, byte,
                                      seconds_of(given), order=order))
@@ -127,8 +127,8 @@ def shrink_its_input(words: list[str]) -> tuple[Mapping[str, str], Union[Shrunk,
     check_program(log, elf_name)
     data = input_of(source)
     program = Program(elf_name, given.get("--names", ""), source_folders(given))
-    return given, shrink_input(Asked(log, program, options, source, data, place,
-                                     given.get("--says", ""), seconds_of(given)))
+    return given, shrink_input(AskedInput(log, program, options, source, data, place,
+                                          given.get("--says", ""), seconds_of(given)))
 
 
 def input_of(name: str) -> bytes:

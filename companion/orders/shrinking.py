@@ -28,9 +28,9 @@ from ..why.output import MOST_ROWS, numbered, writes_of
 from .meaning import Meaning
 from .order_file import Targets
 from .record import Quick
-from .same_end import Ends, Recording
+from .same_end import Ends, EndedRecording
 from .search import Nearest, Search
-from .switches import answer_of, bounded, window_lines
+from .switches import switch_answer, bounded, window_lines
 from .side_by_side import SideBySide
 from .told_order import Telling
 from .tries import Tries
@@ -93,7 +93,7 @@ def shrink(asked: ShrinkInput) -> Shrunk:
     return said
 
 
-def save(made: Recording, targets: Sequence[Target]) -> None:
+def save(made: EndedRecording, targets: Sequence[Target]) -> None:
     save_together([(place, Path(name).read_bytes())
                    for name, place in zip((made.log, made.book), targets)])
 
@@ -143,7 +143,7 @@ def offset_of(log: Log, elf: Elf, byte: Byte) -> int:
                          "output: `zelkuma output` lists them", NO_INTERVAL)
 
 
-def search(asked: ShrinkInput, quick: Quick) -> tuple[Search, Recording, int]:
+def search(asked: ShrinkInput, quick: Quick) -> tuple[Search, EndedRecording, int]:
     """Searches, and saves the recording of the shortest list that is found. A signal ends the
     search alone: its status."""
     offset = offset_of(load_log(asked.log), asked.program.elf, asked.byte) if asked.byte else None
@@ -161,7 +161,8 @@ def search(asked: ShrinkInput, quick: Quick) -> tuple[Search, Recording, int]:
 class Told:
     """What is told of a search."""
 
-    def __init__(self, found: Search, made: Recording, teller: Teller, asked: ShrinkInput) -> None:
+    def __init__(self, found: Search, made: EndedRecording, teller: Teller,
+                 asked: ShrinkInput) -> None:
         self.found = found
         self.teller = teller
         self.asked = asked
@@ -211,4 +212,4 @@ class Told:
                 "recorded_turns": self.found.recorded_turns, "turns": size_of(self.pieces)[1],
                 "recordings": self.found.tries.count, "waiting": list(self.waiting),
                 "is_done": not self.found.tries.is_ended(), "end": self.bucket.line(),
-                "switches": [answer_of(self.teller, one) for one in self.switches[:LONGEST]]}
+                "switches": [switch_answer(self.teller, one) for one in self.switches[:LONGEST]]}

@@ -18,16 +18,16 @@ from ..recording.log import load_log
 from ..recording.memory import quoted
 from ..recording.opened import Program
 from ..why.analysis import analysed
-from .input_ends import HART, InputEnds, Loop
+from .input_ends import HART, InputEnds, LoopEnd
 from .input_search import InputSearch
 from .input_tries import InputTries
 from .record import FAULT, LIMIT, Quick
-from .same_end import Recording, exit_code
+from .same_end import EndedRecording, common_exit_code
 from .shrinking import Signals, memory_folder
 
 
 @dataclass(frozen=True)
-class Asked:
+class AskedInput:
     """What is shrunk.
 
     options   those of its recording
@@ -67,13 +67,13 @@ class ShrunkInput(NamedTuple):
     status: int
 
 
-def suspects_of(log: str, asked: Asked) -> list[str]:
+def suspects_of(log: str, asked: AskedInput) -> list[str]:
     """The places of the suspects of a fault, likeliest first."""
     with analysed(log, asked.program.elf.name, asked.program.given) as facts:
         return list(dict.fromkeys(facts.own_where(item.guilty) for item in facts.shown))
 
 
-def first_suspects(made: Recording, asked: Asked) -> Optional[FirstSuspects]:
+def first_suspects(made: EndedRecording, asked: AskedInput) -> Optional[FirstSuspects]:
     if made.status != FAULT:
         return None
     short = suspects_of(made.log, asked)
@@ -82,7 +82,7 @@ def first_suspects(made: Recording, asked: Asked) -> Optional[FirstSuspects]:
             else None)
 
 
-def begin(asked: Asked, quick: Quick) -> InputSearch:
+def begin(asked: AskedInput, quick: Quick) -> InputSearch:
     """A search whose first recording is that of the whole input, which has to end as LOG."""
     ends = InputEnds(quick, asked.program.elf, asked.says.encode("utf-8", "surrogateescape"))
     tries = InputTries(asked.options, ends, len(os.sched_getaffinity(0)))
@@ -92,14 +92,15 @@ def begin(asked: Asked, quick: Quick) -> InputSearch:
                              "with it the run ends otherwise", REFUSED)
     if asked.says and ends.says not in ends.written(made):
         raise CompanionError(f"the run of LOG doesn't write {asked.says!r}", REFUSED)
-    if not asked.says and made.status not in (FAULT, LIMIT) and not exit_code(made.read.ends):
+    if (not asked.says and made.status not in (FAULT, LIMIT)
+            and not common_exit_code(made.read.ends)):
         raise CompanionError("the run of LOG ended well; "
                              "--says TEXT tells a text that it writes and shouldn't", REFUSED)
     tries.want(made)
     return InputSearch(tries, asked.data)
 
 
-def shrink_input(asked: Asked) -> ShrunkInput:
+def shrink_input(asked: AskedInput) -> ShrunkInput:
     with Scratch(memory_folder()) as folder, Quick(folder) as quick:
         found = begin(asked, quick)
         with Signals(found.tries, asked.seconds) as signals:
@@ -108,32 +109,32 @@ def shrink_input(asked: Asked) -> ShrunkInput:
         if found.tries.is_ended():
             streams.say("the search was ended before it was done: "
                         "the input may be longer than it need be")
-        options = options_of(asked, found)
+        options = input_options(asked, found)
         found.tries.options = dict(options)
         made = found.tries.record(found.best)
         with closing(asked.program) as program:
             bucket = bucket_of(cause_of(made.read, program.elf.name), program.elf, program.places)
         suspects = None if signals.status else first_suspects(made, asked)
-        return ShrunkInput(lines_of(asked, found, made, bucket, suspects),
-                           answer_of(asked, found, made, bucket, suspects), signals.status)
+        return ShrunkInput(input_lines(asked, found, made, bucket, suspects),
+                           input_answer(asked, found, made, bucket, suspects), signals.status)
 
 
-def options_of(asked: Asked, found: InputSearch) -> dict[str, str]:
+def input_options(asked: AskedInput, found: InputSearch) -> dict[str, str]:
     """Those of LOG. A run that hangs does so under the limit that the search came to, too."""
-    limit = ({"--limit": found.tries.options["--limit"]} if isinstance(found.tries.wanted, Loop)
+    limit = ({"--limit": found.tries.options["--limit"]} if isinstance(found.tries.wanted, LoopEnd)
              else {})
     return {**asked.options, **limit}
 
 
-def counts_of(asked: Asked, made: Recording) -> tuple[int, int]:
+def counts_of(asked: AskedInput, made: EndedRecording) -> tuple[int, int]:
     """The instructions of LOG's run, and of the short one."""
     return load_log(asked.log).ends[HART].count, made.read.ends[HART].count
 
 
-def lines_of(asked: Asked, found: InputSearch, made: Recording, bucket: Bucket,
-             suspects: Optional[FirstSuspects]) -> list[str]:
+def input_lines(asked: AskedInput, found: InputSearch, made: EndedRecording, bucket: Bucket,
+                suspects: Optional[FirstSuspects]) -> list[str]:
     before, after = counts_of(asked, made)
-    options = [f"{name}={value}" for name, value in options_of(asked, found).items()]
+    options = [f"{name}={value}" for name, value in input_options(asked, found).items()]
     again = ["zelkuma", "record", *options, f"--input={asked.new.path}", "--",
              asked.program.elf.name, "LOG", "BOOK"]
     return [f"{counted(len(asked.data), 'byte')} of input are cut to {number(len(found.best))}, "
@@ -142,8 +143,8 @@ def lines_of(asked: Asked, found: InputSearch, made: Recording, bucket: Bucket,
             f"end: {bucket.line()}", *(suspects.lines() if suspects else []), shlex.join(again)]
 
 
-def answer_of(asked: Asked, found: InputSearch, made: Recording, bucket: Bucket,
-              suspects: Optional[FirstSuspects]) -> dict[str, Any]:
+def input_answer(asked: AskedInput, found: InputSearch, made: EndedRecording, bucket: Bucket,
+                 suspects: Optional[FirstSuspects]) -> dict[str, Any]:
     before, after = counts_of(asked, made)
     return {"recorded_bytes": len(asked.data), "bytes": len(found.best),
             "recordings": found.tries.count, "recorded_instructions": before, "instructions": after,

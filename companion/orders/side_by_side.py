@@ -10,7 +10,7 @@ from typing import (Callable, Dict, Generator, Generic, Iterable, Iterator, Mapp
 from ..call import streams
 from ..call.jobs import Jobs
 from .record import ENDS, Quick, refusal
-from .same_end import Recording
+from .same_end import EndedRecording
 
 MOST_TRIES = 20000
 # So many tries for each that is under way may wait for those before them
@@ -39,11 +39,11 @@ class Attempt:
     def wait(self) -> None:
         self.status = self.child.wait()
 
-    def made(self) -> Recording:
+    def made(self) -> EndedRecording:
         """The recording that it made, if it did."""
         if self.status not in ENDS:
             raise refusal(self.err, self.status)
-        return Recording(self.status, self.log, self.book, self.said, self.err)
+        return EndedRecording(self.status, self.log, self.book, self.said, self.err)
 
     def remove(self) -> None:
         for name in self.files:

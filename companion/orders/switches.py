@@ -55,7 +55,7 @@ def parted(teller: Teller, *rows: Row) -> list[list[str]]:
             for each in frames]
 
 
-def answer_of(teller: Teller, one: Bounded) -> dict[str, Any]:
+def switch_answer(teller: Teller, one: Bounded) -> dict[str, Any]:
     after = teller.point(one.after)
     before = teller.point(one.before)
     if one.after and one.before and after and before:

@@ -13,8 +13,8 @@ from .marks import LIMIT, OUTPUT, Ended, Mark, Order, Point, mark_of
 from .record import NUMBERS, Quick
 from .meaning import Meaning, Turn
 from .order_file import DEFAULTS
-from .runs import Asked, Runs
-from .same_end import Recording, byte_at
+from .runs import AskedTurns, Runs
+from .same_end import EndedRecording, byte_at
 from .search import Search
 from .verdict import power_of
 
@@ -28,7 +28,7 @@ def settings_told(options: Mapping[str, str]) -> dict[str, str]:
             for name in NUMBERS if name in options and options[name] != DEFAULTS.get(name)}
 
 
-def input_of(options: Mapping[str, str]) -> Optional[bytes]:
+def told_input(options: Mapping[str, str]) -> Optional[bytes]:
     return Path(options["--input"]).read_bytes() if "--input" in options else None
 
 
@@ -48,13 +48,13 @@ class Telling:
 
     def of_one_hart(self) -> Order:
         runs = self.runs(None)
-        made = runs.record(Asked())
+        made = runs.record(AskedTurns())
         return self.order(self.options, self.end_of(runs, made))
 
     def of_search(self, found: Search) -> Order:
         """The order of the shortest list of turns that a search has found."""
         runs = self.runs(None)
-        made = runs.record(Asked(found.best))
+        made = runs.record(AskedTurns(found.best))
         if not made.turns().startswith(turns_of(found.core)):
             raise CompanionError("a full interval or log ends a turn of this order, "
                                  "as in no other build: give `record` a larger --interval", REFUSED)
@@ -73,9 +73,9 @@ class Telling:
 
     def order(self, options: Mapping[str, str], end: Ended) -> Order:
         return Order(os.path.basename(self.meaning.elf.name),
-                     settings_told(options), input_of(options), end)
+                     settings_told(options), told_input(options), end)
 
-    def end_of(self, runs: Runs, made: Recording) -> Ended:
+    def end_of(self, runs: Runs, made: EndedRecording) -> Ended:
         if self.offset is None:
             return runs.ended(made)
         byte = byte_at(made.said, self.offset)
@@ -87,7 +87,7 @@ class Telling:
         return [point and point._replace(callers=self.meaning.called(turn))
                 for point, turn in zip(self.meaning.points(turns), turns)]
 
-    def marks(self, runs: Runs, made: Recording, found: Search) -> List[Mark]:
+    def marks(self, runs: Runs, made: EndedRecording, found: Search) -> List[Mark]:
         """A mark for each switch, with the points of its window."""
         pieces: Pieces = found.core
         taken = {hart: sum(piece.turns for piece in pieces if piece.hart == hart)

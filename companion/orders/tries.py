@@ -8,14 +8,14 @@ from typing import Generator, Hashable, Iterable, Mapping, NamedTuple, Optional,
 from ..call.errors import NO_INTERVAL, CompanionError
 from ..recording.turns import Pieces, pieces_of, size_of, turns_of
 from .record import Quick
-from .same_end import Ends, Exact, Over, Recording
+from .same_end import Ends, Exact, Over, EndedRecording
 from .side_by_side import Attempt, SideBySide
 from .waiting import Waiting
 
 ANY = 1 << 62, 0            # a size that no list has
 
 
-class Held(NamedTuple):
+class HeldTry(NamedTuple):
     """A try that ends as wanted: which of the candidates it is, and its turns."""
     number: int
     pieces: Pieces
@@ -50,13 +50,13 @@ class Tries(SideBySide[Try, Pieces]):
         self.exact_of_last: Exact = Over()
         self.most_counts = 0
 
-    def want(self, made: Recording) -> None:
+    def want(self, made: EndedRecording) -> None:
         """From here on a try is wanted that ends as this recording."""
         self.rough = self.ends.rough(made)
         self.exact = self.ends.exact(made)
         self.most_counts = max(end.count for end in made.read.ends.values())
 
-    def record(self, pieces: Pieces) -> Recording:
+    def record(self, pieces: Pieces) -> EndedRecording:
         """A recording by a list of turns, whose files stay."""
         one = self.begin(pieces)
         one.wait()
@@ -66,10 +66,10 @@ class Tries(SideBySide[Try, Pieces]):
         self.started += 1
         return Try(self.ends.quick, self.options, self.ends.elf.name, self.started - 1, pieces)
 
-    def first(self, candidates: Iterable[Pieces], most: tuple[int, int]) -> Optional[Held]:
+    def first(self, candidates: Iterable[Pieces], most: tuple[int, int]) -> Optional[HeldTry]:
         """The first candidate that ends as wanted and is smaller than `most` says."""
         with closing(self.judged_in_order(candidates, most)) as judged:
-            return next((Held(at, pieces)
+            return next((HeldTry(at, pieces)
                          for at, pieces in enumerate(judged) if pieces is not None), None)
 
     def each(self, candidates: Sequence[Pieces]) -> list[bool]:
@@ -104,11 +104,11 @@ class Tries(SideBySide[Try, Pieces]):
         self.exact_of_last = found
         return pieces
 
-    def is_wanted(self, made: Recording) -> bool:
+    def is_wanted(self, made: EndedRecording) -> bool:
         found = self.exact_of(made) if self.ends.rough(made) == self.rough else None
         return found is not None and self.exact.is_like(found)
 
-    def exact_of(self, made: Recording) -> Optional[Exact]:
+    def exact_of(self, made: EndedRecording) -> Optional[Exact]:
         try:
             return self.ends.exact(made, self.exact)
         except CompanionError as error:

@@ -9,13 +9,13 @@ from ..call.errors import UNSURE, WRONG
 from ..call.text import counted, number
 from ..recording.answers import LONGEST
 from ..recording.turns import Pieces
-from .carry import GONE, KEPT, Carrier, Step
+from .carry import GONE, KEPT, Carrier, CarriedStep
 from .marks import FAULT, LIMIT, WELL, Ended, Order, Power
 from .neighbours import neighbours
 from .order_file import point_text
 from .record import FAULT as STATUS_FAULT
 from .record import LIMIT as STATUS_LIMIT
-from .runs import GROWN, Asked, Runs
+from .runs import GROWN, AskedTurns, Runs
 
 HOLDS = 0                           # the status
 TRIES = 300
@@ -28,10 +28,10 @@ STATUS = {WELL: HOLDS, FAULT: STATUS_FAULT, LIMIT: STATUS_LIMIT}
 
 
 @dataclass
-class Ending:
+class BadEnding:
     """A bad end, how many orders end so, and the first of them."""
     end: Ended
-    first: Asked
+    first: AskedTurns
     count: int = 0
 
 
@@ -42,7 +42,7 @@ class Near:
     tried: int = 0
     slow: int = 0
     left_out: int = 0
-    endings: List[Ending] = field(default_factory=list)
+    endings: List[BadEnding] = field(default_factory=list)
 
     @property
     def bad(self) -> int:
@@ -57,13 +57,13 @@ class Checked:
     shown     the bad end that the verdict is of, if there is one
     status    that of the verdict"""
     order: Order
-    steps: Sequence[Step]
+    steps: Sequence[CarriedStep]
     carried: Ended
     near: Near
     recordings: int
     verdict: str = ""
     status: int = HOLDS
-    shown: Optional[Ending] = None
+    shown: Optional[BadEnding] = None
 
 
 def near_of(runs: Runs, pieces: Pieces, harts: int, tries: int) -> Near:
@@ -71,7 +71,7 @@ def near_of(runs: Runs, pieces: Pieces, harts: int, tries: int) -> Near:
     most = min(tries, MOST_INSTRUCTIONS // max(1, runs.longest))
     found = Near(left_out=tries - most)
     # What called a line counts as far as that makes it the recorded end
-    by_end: Dict[Tuple[Ended, bool], Ending] = {}
+    by_end: Dict[Tuple[Ended, bool], BadEnding] = {}
     for done in runs.each(neighbours(pieces, harts, most)):
         found.tried += 1
         if done.end.kind == WELL:
@@ -79,7 +79,7 @@ def near_of(runs: Runs, pieces: Pieces, harts: int, tries: int) -> Near:
             continue
         key = (done.end._replace(caller=None),
                runs.wanted is not None and done.end.is_as(runs.wanted))
-        by_end.setdefault(key, Ending(done.end, done.asked)).count += 1
+        by_end.setdefault(key, BadEnding(done.end, done.asked)).count += 1
     found.endings = sorted(by_end.values(), key=lambda ending: -ending.count)
     return found
 
@@ -90,21 +90,21 @@ def power_of(runs: Runs, pieces: Pieces, harts: int, tries: int) -> Optional[Pow
     return Power(near.bad, near.tried) if near else None
 
 
-def check(runs: Runs, order: Order, tries: int) -> Checked:
+def checked_order(runs: Runs, order: Order, tries: int) -> Checked:
     carrier = Carrier(runs, order)
     pieces = carrier.run()
-    asked = Asked(pieces) if order.harts > 1 else Asked()
+    asked = AskedTurns(pieces) if order.harts > 1 else AskedTurns()
     carried = runs.one(asked).end
     near = Near()
     if carried.kind == WELL and order.harts > 1:
         near = near_of(runs, pieces, order.harts, tries)
     found = Checked(order, carrier.steps, carried, near, runs.count)
     if carried.kind != WELL:
-        found.shown = Ending(carried, asked, 1)
+        found.shown = BadEnding(carried, asked, 1)
     elif near.endings:
         found.shown = next((ending for ending in near.endings if is_same(ending.end, order)),
                            near.endings[0])
-    judge(found)
+    judge_order(found)
     return found
 
 
@@ -112,7 +112,7 @@ def is_same(end: Ended, order: Order) -> bool:
     return order.end is not None and end.is_as(order.end)
 
 
-def judge(found: Checked) -> None:
+def judge_order(found: Checked) -> None:
     order = found.order
     near = found.near
     if found.shown:
@@ -186,7 +186,7 @@ def near_lines(found: Checked) -> List[str]:
     return said + ([f"    .. {counted(more, 'more end')} .."] if more > 0 else [])
 
 
-def answer(found: Checked) -> Dict[str, Any]:
+def verdict_answer(found: Checked) -> Dict[str, Any]:
     order = found.order
     near = found.near
     return {"program": order.program, "verdict": found.verdict, "status": found.status,

@@ -80,7 +80,7 @@ def stay_of(log: Log, hart: int, text: bytes) -> Stay:
     if not known.places:
         return known
     outside = list(map(int, known.outside().findall(b"\n" + text)))
-    return known._replace(turns=turns_of_stay(behind(text, hart, outside)))
+    return known._replace(turns=turns_of_stay(text_behind(text, hart, outside)))
 
 
 def stay_like(log: Log, hart: int, text: bytes, known: Stay) -> Optional[Stay]:
@@ -88,7 +88,7 @@ def stay_like(log: Log, hart: int, text: bytes, known: Stay) -> Optional[Stay]:
     near = [int(pc, 16) in known.places for pc in PC.findall(text[-NEAR_ROWS * MEAN_ROW:])]
     if all(near):
         counts = [*map(int, known.outside().findall(b"\n" + text)), log.ends[hart].count]
-        stay = behind(text, hart, counts[:-1])
+        stay = text_behind(text, hart, counts[:-1])
         if has_stayed(counts, stay, known):
             return (known._replace(turns=turns_of_stay(stay)) if has_loads(text, known.loads)
                     else None)
@@ -103,7 +103,7 @@ def has_stayed(counts: Sequence[int], stay: bytes, known: Stay) -> bool:
                                                      for pc in known.places)
 
 
-def behind(text: bytes, hart: int, counts: Sequence[int]) -> bytes:
+def text_behind(text: bytes, hart: int, counts: Sequence[int]) -> bytes:
     """What comes behind the last of some rows."""
     at = text.rfind(b"\n%d %d " % (hart, counts[-1])) if counts else -1
     return text[text.find(b"\n", at + 1):] if counts else text

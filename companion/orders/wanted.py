@@ -39,7 +39,7 @@ class Wanted(NamedTuple):
         return self.is_bad or self.statuses == (LIMIT,)
 
 
-def shown(output: bytes) -> str:
+def shown_output(output: bytes) -> str:
     return "".join(c if c.isprintable() else ascii(c)[1:-1]
                    for c in output.decode("utf-8", "backslashreplace"))
 
@@ -53,7 +53,7 @@ def wanted_of(text: str) -> Wanted:
         return Wanted(f"exit:{code}", (DONE,), code)
     if colon and kind == "output" and rest:
         output = rest.encode("utf-8", "surrogateescape")
-        return Wanted(f"output:{shown(output)}", ENDS, output=output)
+        return Wanted(f"output:{shown_output(output)}", ENDS, output=output)
     if text.isdigit() and whole(text, 0, LARGEST_CODE, "--until") in ENDS:
         return Wanted(str(int(text)), (int(text),))
     raise CompanionError(f"--until has to be one of {FORMS}, not {text!r}", REFUSED)

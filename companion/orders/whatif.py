@@ -16,7 +16,7 @@ from ..call.options import read_words
 from ..call.scratch import Scratch
 from ..call.text import counted, number
 from ..questions.core import state_of
-from ..questions.find import value_of
+from ..questions.find import searched_value
 from ..questions.reading import Asked
 from ..recording.answers import put_answer
 from ..recording.book import DIFFERS, check_book
@@ -60,7 +60,7 @@ END_COUNT = re.compile(rb"end \d+ \d+ (\d+) ")
 ACTIONS = "--skip", "--turn", "--set"
 
 
-class Ended(NamedTuple):
+class EndedRun(NamedTuple):
     """How a run ended: the fault or nothing, its hart and place, and the turns of that hart."""
     reason: str
     hart: int
@@ -83,7 +83,7 @@ class Question:
     times: int
 
 
-class Compared(NamedTuple):
+class ComparedRuns(NamedTuple):
     """Whether both runs are the same up to the row, and how many turns were compared."""
     is_sound: bool
     turns: int
@@ -135,7 +135,7 @@ def tests_of(asked: Asked, at: At, others: Sequence[At]) -> Tuple[Tuple[int, int
 def question_of(found: Opened, log: Log, at: At, given: Mapping[str, str]) -> Question:
     code = code_at(log, found.elf.name, at)
     check_action(code, given)
-    value = value_of(found.named, given["--set"]) if "--set" in given else None
+    value = searched_value(found.named, given["--set"]) if "--set" in given else None
     counts = executions(log, found.elf.name, code)
     number_of_it = counts[at.hart].index(at.count) + 1
     others = [At(hart, its[number_of_it - 1])
@@ -166,7 +166,8 @@ def options_of(found: Opened, log: Log, times: int, source: str) -> Dict[str, st
     return options
 
 
-def record(quick: Quick, data: bytes, options: Mapping[str, str], book: str) -> Tuple[Log, str]:
+def record_changed(quick: Quick, data: bytes, options: Mapping[str, str],
+                   book: str) -> Tuple[Log, str]:
     """A recording of a program by BOOK's turns, and the program's name."""
     elf, log, new_book, said, err = (os.path.join(quick.folder, name)
                                      for name in ("elf", "log", "book", "said", "err"))
@@ -217,34 +218,34 @@ class Turns:
         other intervals."""
         return sum(1 for line in self.lines[hart] if not is_end(line))
 
-    def ended(self) -> Ended:
+    def ended(self) -> EndedRun:
         """The fault, or the hart that came to the limit, or neither."""
         for hart, end in sorted(self.log.ends.items()):
             if is_fault(end.reason):
-                return Ended(end.reason, hart, pc_of(self.lines[hart][-1]), self.taken(hart))
+                return EndedRun(end.reason, hart, pc_of(self.lines[hart][-1]), self.taken(hart))
         limited = [hart for hart, end in sorted(self.log.ends.items()) if end.reason == "limit"]
-        return (Ended("limit", limited[0], 0, self.taken(limited[0])) if limited
-                else Ended("", 0, 0, 0))
+        return (EndedRun("limit", limited[0], 0, self.taken(limited[0])) if limited
+                else EndedRun("", 0, 0, 0))
 
 
-def compare(old: Turns, new: Turns, at: At) -> Compared:
+def compare(old: Turns, new: Turns, at: At) -> ComparedRuns:
     end = old.before(at)
     order = old.turns[:end]
     if old.log.harts > 1 and new.turns[:end] != order:
-        return Compared(False, end)
+        return ComparedRuns(False, end)
     for hart, mine in enumerate(old.accesses(end)):
         its = [tuple(ACCESS.findall(line))
                for line in new.lines[hart] if not is_end(line)][:len(mine)]
         if mine != its:
-            return Compared(False, end)
-    return Compared(True, end)
+            return ComparedRuns(False, end)
+    return ComparedRuns(True, end)
 
 
-class Answer(NamedTuple):
+class WhatIfAnswer(NamedTuple):
     question: Question
-    compared: Compared
-    was: Ended
-    now: Ended
+    compared: ComparedRuns
+    was: EndedRun
+    now: EndedRun
 
     def what(self) -> str:
         done = self.question.done
@@ -271,25 +272,27 @@ class Answer(NamedTuple):
                 "now": said(self.now) if self.compared.is_sound else None}
 
 
-def said(end: Ended) -> Optional[Dict[str, Any]]:
+def said(end: EndedRun) -> Optional[Dict[str, Any]]:
     return ({"reason": end.reason, "hart": end.hart, "address": f"{end.pc:08x}", "turns": end.turns}
             if end.reason else None)
 
 
-def answer(found: Opened, log: Log, book: str, at: At, given: Mapping[str, str]) -> Answer:
+def whatif_answer(found: Opened, log: Log, book: str, at: At,
+                  given: Mapping[str, str]) -> WhatIfAnswer:
     question = question_of(found, log, at, given)
     new_code = NewCode(question.done, registers_for(log, found))
     data = patched(found.elf, question.done.code, new_code.words)
     old = Turns(log, found.elf.name, Path(book).read_bytes())
     with Scratch(memory_folder()) as folder, Quick(folder) as quick:
-        made, elf = record(quick, data,
-                           options_of(found, log, question.times, given.get("--input", "")), book)
+        made, elf = record_changed(quick, data,
+                                   options_of(found, log, question.times, given.get("--input", "")),
+                                   book)
         new = Turns(made, elf, Path(quick.folder, "book").read_bytes())
         compared = compare(old, new, at)
         now = new.ended()
     if PLACE <= now.pc < PLACE + 4 * len(new_code.words):       # it is the row
         now = now._replace(pc=question.done.code.pc)
-    return Answer(question, compared, old.ended(), now)
+    return WhatIfAnswer(question, compared, old.ended(), now)
 
 
 def main(words: list[str]) -> int:
@@ -306,7 +309,7 @@ def main(words: list[str]) -> int:
             raise CompanionError(f"LOG has to hold its whole run, of up to {MOST_ROWS:,} rows: "
                                  "a larger --log-size of `again` keeps all", REFUSED)
         check_book(log_name, elf_name, book, [f"--input={source}"] if source else [])
-        told = answer(found, log, book, at, given)
+        told = whatif_answer(found, log, book, at, given)
         if "--json" in given:
             put_answer("whatif", **told.json())
         else:

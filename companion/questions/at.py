@@ -38,7 +38,7 @@ FILE_LINE = 2                       # which name it is
 
 
 @dataclass(frozen=True)
-class Entry:
+class ToldPass:
     """A pass that is told: its hart, its count, the address, and the values of the expressions."""
     hart: int
     count: int
@@ -65,7 +65,7 @@ class Passes:
         self.pattern = re.compile(rb"\n(\d+) (\d+) (%s) " % b"|".join(b"%08x" % place
                                                                       for place in code.places))
         self.total = self.met = self.untold = 0
-        self.told: Deque[Entry] = deque(maxlen=most)
+        self.told: Deque[ToldPass] = deque(maxlen=most)
 
     def take(self, text: bytes) -> None:
         self.values.take(text)
@@ -79,8 +79,8 @@ class Passes:
             self.values.go_to(one)
             if all(self.is_met(each) for each in self.conditions):
                 self.met += bool(self.conditions)
-                self.told.append(Entry(int(one.hart), one.count, one.pc,
-                                       [self.values.text(each) for each in self.expressions]))
+                self.told.append(ToldPass(int(one.hart), one.count, one.pc,
+                                          [self.values.text(each) for each in self.expressions]))
 
     def is_met(self, condition: Expression) -> bool:
         try:
@@ -108,7 +108,7 @@ def passes_of(asked: Asked, line: str, texts: Sequence[str], condition: str = ""
     return found
 
 
-def report(found: Passes) -> List[str]:
+def passes_report(found: Passes) -> List[str]:
     asked = found.asked
     places = found.code.places
     asked.places.fetch(places)
@@ -151,5 +151,5 @@ def main(words: list[str]) -> int:
     most = whole(given.get("--last", str(TOLD)), 1, MOST_TOLD // len(texts), "--last")
     with asked_of(log_name, elf_name, given, keeps_words=True) as asked:
         found = passes_of(asked, line, texts, given.get("--if", ""), most)
-        put_found("at", found, report, at_answer, "--json" in given)
+        put_found("at", found, passes_report, at_answer, "--json" in given)
     return 0

@@ -15,7 +15,7 @@ class Unknown(Exception):
     """Why an expression has no value that can be told."""
 
 
-def signed(value: int, width: int = WIDTH) -> int:
+def signed_bits(value: int, width: int = WIDTH) -> int:
     value &= (1 << width) - 1
     return value - (1 << width) if value >> width - 1 else value
 
@@ -37,21 +37,21 @@ BINARY: Dict[str, Callable[[int, int], int]] = {
     "sub": lambda one, other: one - other,
     "mul": lambda one, other: one * other,
     "lsh": lambda one, other: one << min(other, WIDTH),
-    "rsh_signed": lambda one, other: signed(one) >> min(other, WIDTH),
+    "rsh_signed": lambda one, other: signed_bits(one) >> min(other, WIDTH),
     "rsh_unsigned": lambda one, other: one >> min(other, WIDTH),
-    "div_signed": lambda one, other: quotient(signed(one), signed(other)),
+    "div_signed": lambda one, other: quotient(signed_bits(one), signed_bits(other)),
     "div_unsigned": quotient,
-    "rem_signed": lambda one, other: remainder(signed(one), signed(other)),
+    "rem_signed": lambda one, other: remainder(signed_bits(one), signed_bits(other)),
     "rem_unsigned": remainder,
     "bit_and": lambda one, other: one & other,
     "bit_or": lambda one, other: one | other,
     "bit_xor": lambda one, other: one ^ other,
     "equal": lambda one, other: one == other,
-    "less_signed": lambda one, other: signed(one) < signed(other),
+    "less_signed": lambda one, other: signed_bits(one) < signed_bits(other),
     "less_unsigned": lambda one, other: one < other,
 }
 UNARY: Dict[str, Callable[[int, int], int]] = {
-    "ext": signed,
+    "ext": signed_bits,
     "zero_ext": lambda value, width: value & (1 << width) - 1,
     "log_not": lambda value, _: not value,
     "bit_not": lambda value, _: ~value,
@@ -82,11 +82,11 @@ def evaluate(code: Code, register: Callable[[int], int], read: Callable[[int, in
         elif name == "end":
             return stack.pop()
         else:
-            at = moved(stack, name, operand)
+            at = moved_on(stack, name, operand)
     raise Unknown("gdb's code has no end")
 
 
-def moved(stack: List[int], name: str, operand: int) -> int:
+def moved_on(stack: List[int], name: str, operand: int) -> int:
     """Does what only moves: the place that is gone to, or 0."""
     if name == "goto" or name == "if_goto" and stack.pop():
         return operand

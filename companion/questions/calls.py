@@ -25,7 +25,7 @@ from .registers import Registers
 from .texts import MOST_TEXT, Pointer, texts_of
 from .types import Leaf, Type, signed, value_text
 from .variables import ADDRESS
-from .window import Window
+from .window import CountWindow
 
 HELP = Help(
     "calls LOG ELF FUNCTION [--names ELF] [--where ARG==VALUE] [--last N] [--rows N] [--json]",
@@ -148,7 +148,7 @@ class WaitingChunk(NamedTuple):
     last: Dict[bytes, bytes]
 
 
-class Calls:
+class FoundCalls:
     """The latest calls of a function.
 
     total, told   how many there are, and those that are told
@@ -166,7 +166,7 @@ class Calls:
                        for begin in function.begins if not is_part(asked, function, begin)}
         self.stacks = asked.stacks(begin.address
                                    for begin in self.begins.values() if not begin.inlined)
-        self.window = Window()
+        self.window = CountWindow()
         self.registers = Registers(asked.log, self.window, registers_of(function))
         self.open: dict[bytes, list[Call]] = {}
         self.last: dict[bytes, bytes] = {}
@@ -438,7 +438,7 @@ def call_line(call: Call, asked: Asked) -> list[str]:
             else "from before the first row"]
 
 
-def report(found: Calls) -> list[str]:
+def calls_report(found: FoundCalls) -> list[str]:
     asked = found.asked
     asked.places.fetch(call.source or call.begin.address for call in found.told)
     return asked.report(f"CALLS of {found.function.title()}: {counted(found.total, 'call')}",
@@ -446,7 +446,7 @@ def report(found: Calls) -> list[str]:
                         columns([call_line(call, asked) for call in found.told]))
 
 
-def calls_answer(found: Calls) -> dict[str, Any]:
+def calls_answer(found: FoundCalls) -> dict[str, Any]:
     asked = found.asked
     return {"function": found.function.name, "calls": found.total, "left_out": asked.left_out(),
             "entries": [{"hart": int(call.hart), "count": call.count, "place":
@@ -457,8 +457,8 @@ def calls_answer(found: Calls) -> dict[str, Any]:
 
 
 def calls_of(asked: Asked, function: Function, most: int = TOLD,
-             where: Optional[Where] = None) -> Calls:
-    found = Calls(asked, function, most, where)
+             where: Optional[Where] = None) -> FoundCalls:
+    found = FoundCalls(asked, function, most, where)
     read(asked.chunks(), found)
     found.finish()
     add_texts(asked, found.told)
@@ -472,5 +472,5 @@ def main(words: list[str]) -> int:
         function = function_of(asked.named, name)
         where = Where(given["--where"], function) if "--where" in given else None
         found = calls_of(asked, function, most, where)
-        put_found("calls", found, report, calls_answer, "--json" in given)
+        put_found("calls", found, calls_report, calls_answer, "--json" in given)
     return 0

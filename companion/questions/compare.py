@@ -41,7 +41,7 @@ STORED = "store "
 
 
 @dataclass(frozen=True)
-class Row:
+class ComparedRow:
     """A row of a run, its instruction, and what it did."""
     count: int
     text: str
@@ -54,10 +54,10 @@ class Row:
 
 
 @dataclass
-class Run:
+class ComparedRun:
     """A log, and the rows of harts that were asked for."""
     asked: Asked
-    known: Dict[int, Dict[int, Row]] = field(default_factory=dict)
+    known: Dict[int, Dict[int, ComparedRow]] = field(default_factory=dict)
 
     def reason(self, hart: int) -> str:
         end = self.asked.log.ends.get(hart)
@@ -67,7 +67,7 @@ class Run:
         end = self.asked.log.ends[hart]
         return f"{end.reason} {end.value:08x} at count {number(end.count)}"
 
-    def row(self, hart: int, count: int) -> Optional[Row]:
+    def row(self, hart: int, count: int) -> Optional[ComparedRow]:
         """A row; those before it and the next one are read with it."""
         rows = self.known.setdefault(hart, {})
         if count not in rows and count >= 0:
@@ -76,7 +76,7 @@ class Run:
                 for row in text[1:].split(b"\n"):
                     _, at, key, _ = cut(row)
                     said = row.decode("ascii", "replace")
-                    rows[at] = Row(at, said, Instruction(0, key), told_in(said))
+                    rows[at] = ComparedRow(at, said, Instruction(0, key), told_in(said))
         return rows.get(count)
 
 
@@ -86,9 +86,9 @@ class Parting:
     the first that isn't, if it has one. `loads` are the loads behind it, and `givers` the rows that
     had stored what they got. `place` is that of the row in the order of BAD."""
     lane: Lane
-    same: list[Row]
-    other: list[Optional[Row]]
-    loads: list[Optional[Row]]
+    same: list[ComparedRow]
+    other: list[Optional[ComparedRow]]
+    loads: list[Optional[ComparedRow]]
     givers: list[str] = field(default_factory=lambda: ["", ""])
     place: int = 0
 
@@ -97,7 +97,7 @@ class Parting:
         return self.lane.hart
 
 
-def lanes_of(runs: list[Run], most: int) -> tuple[list[Lane], bool]:
+def lanes_of(runs: list[ComparedRun], most: int) -> tuple[list[Lane], bool]:
     """The harts, compared up to so many rows of each run, and whether that left some out.
     Beginnings that are the same text are passed by."""
     loops = Loops(runs[0].asked.elf)
@@ -128,7 +128,7 @@ def lanes_of(runs: list[Run], most: int) -> tuple[list[Lane], bool]:
     return lanes, is_cut
 
 
-def has_parted(lane: Lane, runs: list[Run]) -> bool:
+def has_parted(lane: Lane, runs: list[ComparedRun]) -> bool:
     """Whether a hart went another way. One that another hart or the limit has stopped did not, but
     for one that waited until then."""
     for way, run in zip((lane.good, lane.bad), runs):
@@ -137,7 +137,7 @@ def has_parted(lane: Lane, runs: list[Run]) -> bool:
     return lane.parted
 
 
-def parting_of(runs: list[Run], lane: Lane) -> Optional[Parting]:
+def parting_of(runs: list[ComparedRun], lane: Lane) -> Optional[Parting]:
     if not has_parted(lane, runs):
         return None
     ways = lane.good, lane.bad
@@ -148,7 +148,8 @@ def parting_of(runs: list[Run], lane: Lane) -> Optional[Parting]:
     return Parting(lane, [same[0], same[1]], other, loads_behind(runs, lane, same[0].code))
 
 
-def loads_behind(runs: list[Run], lane: Lane, branch: Instruction) -> list[Optional[Row]]:
+def loads_behind(runs: list[ComparedRun], lane: Lane,
+                 branch: Instruction) -> list[Optional[ComparedRow]]:
     """The latest loads, in both runs the same instruction, that gave what a branch compared, and
     got different values."""
     wanted = {branch.rs1, branch.rs2} - {0}
@@ -164,7 +165,7 @@ def loads_behind(runs: list[Run], lane: Lane, branch: Instruction) -> list[Optio
     return [None, None]
 
 
-def rows_back(runs: list[Run], lane: Lane) -> Iterator[tuple[Row, Row]]:
+def rows_back(runs: list[ComparedRun], lane: Lane) -> Iterator[tuple[ComparedRow, ComparedRow]]:
     """The rows that are the same in both runs, backwards from the last but one. What one of them
     waited longer is left out."""
     good = lane.good.first - 2
@@ -191,14 +192,14 @@ class StoreSearch:
     """Looks in the order of a run for the row that had stored what was loaded, and for the place at
     which a hart parted."""
 
-    def __init__(self, run: Run, found: Parting, at: int) -> None:
+    def __init__(self, run: ComparedRun, found: Parting, at: int) -> None:
         self.found = found
         self.at = at
         load = found.loads[at]
         row = found.same[at]
         self.branch = b"\n%d %d " % (found.hart, row.count)
         self.load = b"\n%d %d " % (found.hart, load.count) if load else b""
-        self.words = Words(run.asked, loaded(load)) if load else None
+        self.words = Words(run.asked, loaded_bytes(load)) if load else None
 
     def take(self, text: bytes, rows: int) -> bool:
         """Whether it has to look further than a chunk, before which there are so many rows."""
@@ -212,7 +213,7 @@ class StoreSearch:
         return end < 0
 
 
-def find_givers(run: Run, at: int, partings: list[Parting]) -> None:
+def find_givers(run: ComparedRun, at: int, partings: list[Parting]) -> None:
     rows = 0
     left = [StoreSearch(run, found, at) for found in partings]
     for text in run.asked.chunks() if left else ():
@@ -222,17 +223,18 @@ def find_givers(run: Run, at: int, partings: list[Parting]) -> None:
             break
 
 
-def result_of(row: Row) -> str:
+def result_of(row: ComparedRow) -> str:
     """What a row put into its register."""
     return row.tells(NAMES[row.code.rd] + "=")
 
 
-def loaded(load: Row) -> Variable:
+def loaded_bytes(load: ComparedRow) -> Variable:
     """The bytes that a row loads."""
     return Variable("", int(load.tells(LOADED)[len(LOADED):][:8], 16), words_type(load.code.width))
 
 
-def row_lines(title: str, row: Optional[Row], run: Run, found: Parting) -> list[str]:
+def compared_lines(title: str, row: Optional[ComparedRow], run: ComparedRun,
+                   found: Parting) -> list[str]:
     places = run.asked.places
     if row is None:
         return [f"    {title:<5} " + ("waits there until its limit" if found.lane.waits
@@ -240,7 +242,7 @@ def row_lines(title: str, row: Optional[Row], run: Run, found: Parting) -> list[
     return [f"    {title:<5} {places.chain([row.code.pc], MOST_FRAMES)}", f"          {row.text}"]
 
 
-def parting_lines(found: Parting, runs: list[Run]) -> list[str]:
+def parting_lines(found: Parting, runs: list[ComparedRun]) -> list[str]:
     places = runs[0].asked.places
     good, bad = found.same
     source = places.source(good.code.pc)
@@ -248,7 +250,7 @@ def parting_lines(found: Parting, runs: list[Run]) -> list[str]:
              f"{number(bad.count)} in BAD", "  behind "
              f"{places.chain([good.code.pc], MOST_FRAMES)}{'   ' + source if source else ''}"]
     for title, row, run in zip(("GOOD", "BAD"), found.other, runs):
-        lines += row_lines(title, row, run, found)
+        lines += compared_lines(title, row, run, found)
     if found.loads[0]:
         lines.append(f"  it had loaded, in {places.chain([found.loads[0].code.pc], MOST_FRAMES)}")
     for title, load, giver in zip(("GOOD", "BAD"), found.loads, found.givers):
@@ -258,7 +260,7 @@ def parting_lines(found: Parting, runs: list[Run]) -> list[str]:
     return lines
 
 
-def giver_text(row: str, run: Run) -> str:
+def giver_text(row: str, run: ComparedRun) -> str:
     if not row:
         return "no row: it is from the beginning"
     hart, count, key, _ = cut(row.encode())
@@ -268,14 +270,14 @@ def giver_text(row: str, run: Run) -> str:
             f"{did if did.startswith(STORED) else 'a read call, ' + did}")
 
 
-def ends(title: str, run: Run) -> list[str]:
+def ends(title: str, run: ComparedRun) -> list[str]:
     return [f"  {title:<5} " + "; ".join(f"hart {hart} {run.end(hart)}"
                                          for hart in sorted(run.asked.log.ends))]
 
 
 class Compared(NamedTuple):
     """What is told of two runs. `is_cut`: whether later rows weren't compared."""
-    runs: List[Run]
+    runs: List[ComparedRun]
     partings: List[Parting]
     harts: int
     is_cut: bool
@@ -302,8 +304,8 @@ def compared(good: str, bad: str, elf_name: str, files: Mapping[str, str],
     with contextlib.ExitStack() as opened:
         both = [opened.enter_context(asked_of(log, elf_name, {**files, "--rows": str(HIGHEST)}))
                 for log in (good, bad)]
-        check(both)
-        runs = [Run(asked) for asked in both]
+        check_logs(both)
+        runs = [ComparedRun(asked) for asked in both]
         lanes, is_cut = lanes_of(runs, most)
         partings = [found for found in (parting_of(runs, lane) for lane in lanes) if found]
         for at, run in enumerate(runs):
@@ -311,8 +313,8 @@ def compared(good: str, bad: str, elf_name: str, files: Mapping[str, str],
         yield Compared(runs, sorted(partings, key=lambda found: found.place), len(lanes), is_cut)
 
 
-def parting_answer(found: Parting, runs: list[Run]) -> dict[str, Any]:
-    def point(row: Optional[Row]) -> Optional[dict[str, Any]]:
+def parting_answer(found: Parting, runs: list[ComparedRun]) -> dict[str, Any]:
+    def point(row: Optional[ComparedRow]) -> Optional[dict[str, Any]]:
         if row is None:
             return None
         return {"hart": found.hart, "count": row.count, "row": row.text,
@@ -322,7 +324,7 @@ def parting_answer(found: Parting, runs: list[Run]) -> dict[str, Any]:
             "givers": found.givers, "waits": found.lane.waits}
 
 
-def check(runs: Iterable[Asked]) -> None:
+def check_logs(runs: Iterable[Asked]) -> None:
     """CompanionError if a log has lost its beginning."""
     for asked in runs:
         if asked.log.unread or any(interval.start

@@ -17,7 +17,7 @@ from ..recording.followed import FollowedMemory
 from ..recording.instruction import BRANCH, JUMP, OP_JALR, Instruction
 from ..recording.log import At, is_fault, no_row
 from ..recording.memory import Memory
-from ..recording.passed import write
+from ..recording.passed import write_registers
 from .reading import Asked
 
 LOWEST = 4096               # no address below is mapped
@@ -35,13 +35,13 @@ SIGNALS: dict[str, int] = {"Illegal": signal.SIGILL, "Breakpoint": signal.SIGTRA
                            "ReadOnly": signal.SIGSEGV}
 
 
-class Piece(NamedTuple):
+class CorePiece(NamedTuple):
     """Known bytes of memory."""
     address: int
     body: bytes
 
 
-class Place:
+class CorePlace:
     """The harts' counts and the memory behind the rows that were taken, in the order of `joint`.
 
     counts   {hart: its count}, of those that have a row, or all of whose rows the log has
@@ -73,7 +73,7 @@ class Place:
                 self.counts[hart] = last + 1
 
 
-class State(NamedTuple):
+class CoreState(NamedTuple):
     """A hart's: `registers` are its pc and x1 to x31. `reason` is that of its end, if it stands
     there."""
     hart: int
@@ -92,7 +92,7 @@ class State(NamedTuple):
         return struct.pack("<III", 5, len(body), STATUS) + b"CORE\0\0\0\0" + body
 
 
-def state_of(asked: Asked, hart: int, count: int) -> State:
+def state_of(asked: Asked, hart: int, count: int) -> CoreState:
     """A hart's state at a count: the registers at its interval's beginning, and what the rows from
     there on wrote."""
     log = asked.log
@@ -103,18 +103,19 @@ def state_of(asked: Asked, hart: int, count: int) -> State:
     for text in rows_between(log, asked.elf.name, hart, interval.start, count + 1):
         rows, at_place, rest = text.partition(behind)
         if rows:
-            write(registers, last)
+            write_registers(registers, last)
             end = rows.rfind(b"\n")
-            write(registers, rows[:end])
+            write_registers(registers, rows[:end])
             last = rows[end:]
         if at_place:
             pc = int(rest[:8], 16)
             break
     else:
         pc = next_pc(Instruction(0, cut(last).key), registers) if last else registers[0]
-    write(registers, last)
+    write_registers(registers, last)
     stop = log.ends.get(hart)
-    return State(hart, [pc, *registers[1:]], stop.reason if stop and stop.count == count else "")
+    return CoreState(hart, [pc, *registers[1:]],
+                     stop.reason if stop and stop.count == count else "")
 
 
 def next_pc(code: Instruction, registers: list[int]) -> int:
@@ -138,7 +139,7 @@ def is_taken(comparison: int, one: int, other: int) -> bool:
     return is_so != bool(comparison & 1)
 
 
-def pieces_of(memory: Memory, size: int) -> Iterator[Piece]:
+def core_pieces(memory: Memory, size: int) -> Iterator[CorePiece]:
     """What is known, in pieces."""
     body = bytearray(size)
     known = bytearray(bytes([memory.is_whole])) * (size >> 2)
@@ -155,10 +156,10 @@ def pieces_of(memory: Memory, size: int) -> Iterator[Piece]:
         known[word >> 2] = 0
     known[:LOWEST >> 2] = bytes(LOWEST >> 2)
     for found in re.finditer(rb"\x01+", known):
-        yield Piece(4 * found.start(), bytes(body[4 * found.start():4 * found.end()]))
+        yield CorePiece(4 * found.start(), bytes(body[4 * found.start():4 * found.end()]))
 
 
-def core_file(states: list[State], pieces: list[Piece]) -> bytes:
+def core_file(states: list[CoreState], pieces: list[CorePiece]) -> bytes:
     """The file. The first state is that of the hart that gdb shows at first, and whose fault it
     tells."""
     notes = CORE_MARK + b"".join(state.note(states[0].signal) for state in states)
@@ -174,17 +175,17 @@ def core_file(states: list[State], pieces: list[Piece]) -> bytes:
     return b"".join([head, notes, *heads, *(piece.body for piece in pieces)])
 
 
-class Saved(NamedTuple):
+class SavedCore(NamedTuple):
     """A file, what it has, and what it doesn't have, as lines."""
     data: bytes
     what: str
     missing: list[str]
 
 
-def core(asked: Asked, row: Optional[At]) -> Saved:
+def core(asked: Asked, row: Optional[At]) -> SavedCore:
     """The core file of the end, or of the place before a row."""
     log = asked.log
-    place = Place(asked, row)
+    place = CorePlace(asked, row)
     place.read()
     if row and not place.is_found:
         if log.unread:
@@ -196,15 +197,15 @@ def core(asked: Asked, row: Optional[At]) -> Saved:
               for hart, count in place.counts.items()]
     states.sort(key=lambda state: (not row or state.hart != row.hart,
                                    not is_fault(state.reason), state.hart))
-    pieces = list(pieces_of(place.followed.memory, log.memory))
+    pieces = list(core_pieces(place.followed.memory, log.memory))
     kept = pieces[:MOST_PIECES]
     size = sum(len(piece.body) for piece in kept)
-    return Saved(core_file(states, kept),
-                 f"{counted(len(states), 'hart')} and {counted(size, 'byte')} of memory",
-                 what_is_missing(asked, states, size))
+    return SavedCore(core_file(states, kept),
+                     f"{counted(len(states), 'hart')} and {counted(size, 'byte')} of memory",
+                     what_is_missing(asked, states, size))
 
 
-def what_is_missing(asked: Asked, states: list[State], size: int) -> list[str]:
+def what_is_missing(asked: Asked, states: list[CoreState], size: int) -> list[str]:
     said = []
     most = asked.log.memory - LOWEST
     lost = sorted(set(range(asked.log.harts)) - {state.hart for state in states})

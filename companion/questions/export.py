@@ -12,7 +12,7 @@ from ..call.saving import target
 from ..call.text import number
 from ..recording.log import asked_row
 from .callgrind import callgrind
-from .core import Saved, core
+from .core import SavedCore, core
 from .lcov import lcov
 from .perfetto import perfetto
 from .reading import Asked, asked_of
@@ -56,7 +56,7 @@ def main(words: list[str]) -> int:
             made = core(asked, row)
         else:
             text = MAKERS[option](asked).encode("utf-8", "backslashreplace")
-            made = Saved(text, f"{number(asked.log.rows())} rows", [])
+            made = SavedCore(text, f"{number(asked.log.rows())} rows", [])
         saved.save(made.data)
         for line in asked.left_out() + made.missing:
             streams.say(line)

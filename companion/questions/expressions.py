@@ -16,8 +16,8 @@ from .bytecode import Code, Unknown, evaluate
 from .debugger import told_by_gdb
 from .reading import Asked
 from .registers import Registers
-from .types import Leaf, Type, bounded, leaves, value_text
-from .window import Window
+from .types import Leaf, Type, bounded_type, leaves, value_text
+from .window import CountWindow
 
 LINE = re.compile(r"[\w./+@-]+:\d{1,7}")
 MISTAKES = re.compile(r"No symbol|no member|syntax error|No type|No struct|No union|No "
@@ -52,7 +52,7 @@ class Expression:
             return cls(text, error="optimized out" if "optimized out" in error else error)
         codes: Dict[int, Code] = {int(place): [(at, name, operand) for at, name, operand in code]
                                   for place, code in said["codes"].items()}
-        return cls(text, codes, bounded(said["type"]), said["whole"], said["text"])
+        return cls(text, codes, bounded_type(said["type"]), said["whole"], said["text"])
 
     def operations(self) -> List[tuple[int, str, int]]:
         return [each for code in self.codes.values() for each in code]
@@ -109,7 +109,7 @@ class Values:
         self.memory = FollowedMemory(asked.log, asked.elf, asked.is_whole)
         self.follows = any(each.has_memory() for each in expressions)
         # Of the rows before the latest chunk the last values are enough
-        self.window = Window(0)
+        self.window = CountWindow(0)
         numbers = {number for each in expressions
                    for _, name, number in each.operations() if name == "reg"}
         self.registers = Registers(asked.log, self.window,

@@ -46,7 +46,7 @@ class PlaceGroup:
     words: list[int] = field(default_factory=list)
 
 
-class Found:
+class FoundRows:
     """total   how many rows have the value; groups: of the first of them, by place and what they
     do"""
 
@@ -101,7 +101,7 @@ class Found:
         return found
 
 
-def value_of(elf: Elf, text: str) -> int:
+def searched_value(elf: Elf, text: str) -> int:
     symbol = symbol_of(elf, text)
     if symbol:
         return symbol.address
@@ -128,7 +128,7 @@ def group_line(group: PlaceGroup, asked: Asked) -> list[str]:
             + more, asked.places.chain([group.pc], MOST_FRAMES)]
 
 
-def report(found: Found) -> list[str]:
+def rows_report(found: FoundRows) -> list[str]:
     asked = found.asked
     groups = list(found.groups.values())
     asked.places.fetch(group.pc for group in groups[:TOLD])
@@ -147,7 +147,7 @@ def report(found: Found) -> list[str]:
     return lines + ["  " + line for line in asked.left_out()]
 
 
-def find_answer(found: Found) -> dict[str, Any]:
+def find_answer(found: FoundRows) -> dict[str, Any]:
     asked = found.asked
     return {"value": f"{found.value:08x}", "rows": found.total, "rows_by_place": found.told,
             "left_out": asked.left_out(), "in_file": [f"{word:08x}" for word in found.in_file()],
@@ -160,7 +160,7 @@ def find_answer(found: Found) -> dict[str, Any]:
 def main(words: list[str]) -> int:
     (log_name, elf_name, text), given = read_words(words, HELP.form)
     with asked_of(log_name, elf_name, given) as asked:
-        found = Found(asked, value_of(asked.named, text))
+        found = FoundRows(asked, searched_value(asked.named, text))
         read(asked.chunks(), found)
-        put_found("find", found, report, find_answer, "--json" in given)
+        put_found("find", found, rows_report, find_answer, "--json" in given)
     return 0

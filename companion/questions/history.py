@@ -39,7 +39,7 @@ LARGEST = 8             # bytes of a C scalar: larger variables are told by thei
 
 
 @dataclass(frozen=True)
-class Entry:
+class ToldStore:
     """A store or a `read` call: its hart and count, its row, its address and those of the calls
     over it, the part that it stored to, and the values of that before and after."""
     hart: int
@@ -59,7 +59,7 @@ class Kept(NamedTuple):
     top: Frame
 
 
-class History:
+class VariableHistory:
     """The latest stores to a variable.
 
     total, told   how many there are, and those that are told"""
@@ -85,7 +85,7 @@ class History:
                                       self.stacks.chunk.top(hart_of(row), change.place)))
 
     @property
-    def told(self) -> List[Entry]:
+    def told(self) -> List[ToldStore]:
         return [self.entry(*each) for each in self.kept]
 
     def is_change(self, change: Change) -> bool:
@@ -96,7 +96,7 @@ class History:
         old, new = change.values(begin, end - begin)
         return old != new
 
-    def entry(self, change: Change, row: bytes, top: Frame) -> Entry:
+    def entry(self, change: Change, row: bytes, top: Frame) -> ToldStore:
         hart, count, key, _ = cut(row)
         code = Instruction(0, key)
         base = self.variable.address
@@ -113,8 +113,9 @@ class History:
         part = self.part(first - base, end - base)
         old, new = (value_text(part, data, self.asked.name_of)
                     for data in change.values(base + part.at, part.size))
-        return Entry(int(hart), count, row.decode("ascii", "replace"),
-                     [code.pc, *call_places(top, MOST_FRAMES)], part.path, old, new, change.fill)
+        return ToldStore(int(hart), count,
+                         row.decode("ascii", "replace"), [code.pc, *call_places(top, MOST_FRAMES)],
+                         part.path, old, new, change.fill)
 
     def part(self, first: int, end: int) -> Leaf:
         """The part of the variable that has these bytes; of several the bytes as they are, by the
@@ -126,13 +127,13 @@ class History:
                     {"kind": "bytes", "size": end - first, "name": ""})
 
 
-def entry_line(entry: Entry, asked: Asked, name: str) -> list[str]:
+def entry_line(entry: ToldStore, asked: Asked, name: str) -> list[str]:
     new = f"{counted(entry.fill.size, 'byte')} of a read call" if entry.fill else entry.new
     return [f"{entry.hart}:{entry.count}", name + entry.part, f"{entry.old} -> {new}",
             asked.places.chain(entry.pcs, MOST_FRAMES)]
 
 
-def before_line(found: History) -> list[str]:
+def before_line(found: VariableHistory) -> list[str]:
     """What the variable was before the first row, if it has one part."""
     variable = found.variable
     asked = found.asked
@@ -146,7 +147,7 @@ def before_line(found: History) -> list[str]:
     return [f"  before the first row: {value_text(part, data, asked.name_of)}, as the file has it"]
 
 
-def report(found: History) -> list[str]:
+def stores_report(found: VariableHistory) -> list[str]:
     variable = found.variable
     asked = found.asked
     asked.places.fetch(pc for entry in found.told for pc in entry.pcs)
@@ -159,7 +160,7 @@ def report(found: History) -> list[str]:
                         before_line(found) + columns(rows))
 
 
-def history_answer(found: History) -> dict[str, Any]:
+def history_answer(found: VariableHistory) -> dict[str, Any]:
     variable = found.variable
     asked = found.asked
     return {"name": variable.name, "address": f"{variable.address:08x}", "size": variable.size,
@@ -172,9 +173,9 @@ def history_answer(found: History) -> dict[str, Any]:
 
 
 def history_of(asked: Asked, variable: Variable, most: int = TOLD,
-               only_changes: bool = False) -> History:
+               only_changes: bool = False) -> VariableHistory:
     stacks = asked.stacks()
-    found = History(asked, stacks, variable, most, only_changes)
+    found = VariableHistory(asked, stacks, variable, most, only_changes)
     read(asked.chunks(), stacks, found)
     return found
 
@@ -184,5 +185,5 @@ def main(words: list[str]) -> int:
     most = whole(given.get("--last", str(TOLD)), 1, MOST_TOLD, "--last")
     with asked_of(log_name, elf_name, given) as asked:
         found = history_of(asked, variable_of(asked.named, name), most, "--changes" in given)
-        put_found("history", found, report, history_answer, "--json" in given)
+        put_found("history", found, stores_report, history_answer, "--json" in given)
     return 0

@@ -35,7 +35,7 @@ PLAIN_NAME = re.compile(r"[A-Za-z_][A-Za-z0-9_]{0,60}")
 MOST_LOCALS = 12            # of a line, so many as a table has columns
 
 
-class Types:
+class GdbTypes:
     """Tells types. What is too deep or too much is told as bytes."""
 
     def __init__(self) -> None:
@@ -80,10 +80,10 @@ def variable(name: str) -> dict[str, Any]:
     place = gdb.parse_and_eval(f"&({name})")
     if not place.type.target().sizeof:          # of a symbol without DWARF, or of a declaration
         raise ValueError("its size isn't known")
-    return {"address": int(place) & 0xffffffff, "type": Types().told(place.type.target())}
+    return {"address": int(place) & 0xffffffff, "type": GdbTypes().told(place.type.target())}
 
 
-def function_of(block: Any) -> Any:
+def gdb_function(block: Any) -> Any:
     """The innermost function that a block belongs to, inlined or not: its block."""
     while block is not None and block.function is None:
         block = block.superblock
@@ -92,7 +92,7 @@ def function_of(block: Any) -> Any:
 
 def depth_of(block: Any) -> int:
     """How many functions a function's block is in: 0 unless it is inlined."""
-    over = function_of(block.superblock)
+    over = gdb_function(block.superblock)
     return 0 if over is None else 1 + depth_of(over)
 
 
@@ -135,9 +135,9 @@ def function(name: str) -> dict[str, Any]:
 def block_of(address: int, name: str) -> Any:
     """The block of a function at an address, where what it begins with can be inlined; without one
     of this name the innermost."""
-    found = innermost = function_of(gdb.block_for_pc(address))
+    found = innermost = gdb_function(gdb.block_for_pc(address))
     while found is not None and found.function.name != name.rpartition("::")[2]:
-        found = function_of(found.superblock)
+        found = gdb_function(found.superblock)
     return innermost if found is None else found
 
 
@@ -147,9 +147,9 @@ def own_code(symbol: Any, address: int, name: str) -> dict[str, Any]:
     for each in block_of(address, name) or ():
         if each.is_argument:
             parameters.append({"name": each.name, "register": held.get(each.name, ""),
-                               "type": Types().told(each.type)})
+                               "type": GdbTypes().told(each.type)})
     return {"address": address, "inlined": False, "parameters": parameters,
-            "result": Types().told(symbol.type.target())}
+            "result": GdbTypes().told(symbol.type.target())}
 
 
 def line(spec: str, expressions: Optional[list[str]]) -> dict[str, Any]:
@@ -162,7 +162,7 @@ def line(spec: str, expressions: Optional[list[str]]) -> dict[str, Any]:
         return {"places": []}
     texts = locals_at(found[0]) if expressions is None else expressions
     return {"places": found, "texts": texts,
-            "expressions": [compiled(spec, found, each) for each in texts]}
+            "expressions": [compiled_by_gdb(spec, found, each) for each in texts]}
 
 
 def locals_at(place: int) -> list[str]:
@@ -177,7 +177,7 @@ def locals_at(place: int) -> list[str]:
     return list(found)[:MOST_LOCALS]
 
 
-def compiled(spec: str, places: list[int], expression: str) -> dict[str, Any]:
+def compiled_by_gdb(spec: str, places: list[int], expression: str) -> dict[str, Any]:
     """The type of an expression, and its bytecode at each place. The value of what is `whole` isn't
     given, but its address."""
     try:
@@ -190,7 +190,7 @@ def compiled(spec: str, places: list[int], expression: str) -> dict[str, Any]:
         codes = dict(bytecode(spec, f"&({expression})" if is_whole else expression))
         letters = (plain.target().strip_typedefs()
                    if plain.code in (gdb.TYPE_CODE_PTR, gdb.TYPE_CODE_ARRAY) else None)
-        return {"type": Types().told(found), "whole": is_whole,
+        return {"type": GdbTypes().told(found), "whole": is_whole,
                 "codes": {str(place): codes[place] for place in places}, "text": letters is not None
                 and letters.code in (gdb.TYPE_CODE_INT, gdb.TYPE_CODE_CHAR) and letters.sizeof == 1}
     except (gdb.error, RuntimeError, ValueError, KeyError) as error:
@@ -234,10 +234,10 @@ def type_at(place: int, expression: str) -> Any:
     if not TYPE_NAME.fullmatch(said):           # an ELF file can call a type anything
         raise ValueError(f"its type is {said}")
     # Gdb tells a type as text alone
-    return gdb.parse_and_eval(f"({pointer_to(said)}) 0").type.target()
+    return gdb.parse_and_eval(f"({gdb_pointer_to(said)}) 0").type.target()
 
 
-def pointer_to(said: str) -> str:
+def gdb_pointer_to(said: str) -> str:
     """The text of a pointer to a type: C writes its star in the place of a name, as in `int
     (*)[4]`."""
     at = BEFORE_NAME.match(said).end()          # type: ignore[union-attr]

@@ -42,14 +42,14 @@ def lcov(asked: Asked) -> str:
                 f"FNDA:{of_function.get(symbol.address, 0)},{symbol.name}"])
     said = ["TN:zelkuma"]
     for path, counts in sorted(lines.items()):
-        said += [f"SF:{source_of(asked, path)}", *functions.get(path, [])]
+        said += [f"SF:{lcov_source(asked, path)}", *functions.get(path, [])]
         said += [f"DA:{line},{count}" for line, count in sorted(counts.items())]
         said += [f"LF:{len(counts)}",
                  f"LH:{sum(count > 0 for count in counts.values())}", "end_of_record"]
     return "\n".join(said) + "\n"
 
 
-def source_of(asked: Asked, path: str) -> str:
+def lcov_source(asked: Asked, path: str) -> str:
     """The source's name: as the program was built, or beside the ELF file."""
     beside = os.path.join(os.path.dirname(asked.named.name), os.path.basename(path))
     return os.path.abspath(path if os.path.exists(path) or not os.path.exists(beside) else beside)

@@ -45,7 +45,7 @@ class Events:
                        "from": self.asked.places.where(call.call)})
 
 
-class Turns:
+class TurnEvents:
     """When each hart's rows stand together in the order of `joint`, when it waits, and the rows of
     Edges."""
 
@@ -108,7 +108,7 @@ class Turns:
 
 def perfetto(asked: Asked) -> str:
     events = Events(asked)
-    turns = Turns(asked)
+    turns = TurnEvents(asked)
     stacks = asked.stacks()
     flow = Flow(stacks, events.left)
     read(asked.chunks(), stacks, turns, flow)

@@ -71,12 +71,12 @@ class Asked(NamedTuple):
         return [head + more] + lines + ["  " + line for line in last + self.left_out()]
 
 
-class Reader(Protocol):
+class RowReader(Protocol):
     def take(self, text: bytes) -> None:
         """Reads a chunk."""
 
 
-def read(texts: Iterable[bytes], *readers: Reader) -> None:
+def read(texts: Iterable[bytes], *readers: RowReader) -> None:
     """All of them read these chunks, in one go."""
     for text in texts:
         for each in readers:

@@ -7,7 +7,7 @@ from typing import Iterable, Optional
 from ..recording.cut import hart_at
 from ..recording.instruction import NAMES
 from ..recording.log import Log
-from .window import Window
+from .window import CountWindow
 
 
 class Registers:
@@ -16,7 +16,7 @@ class Registers:
     known     {hart and register: the place up to which rows were looked at, and what its value was
               there, or None}"""
 
-    def __init__(self, log: Log, window: Window, names: Iterable[str]) -> None:
+    def __init__(self, log: Log, window: CountWindow, names: Iterable[str]) -> None:
         """`names` are those that are asked for."""
         self.window = window
         self.needles = {name.encode(): b"| %s=" % name.encode() for name in names}

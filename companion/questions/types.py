@@ -31,22 +31,22 @@ def words_type(size: int) -> Type:
     return {"kind": "words" if size > 4 else "bytes", "name": "", "size": size}
 
 
-def bounded(of: Type) -> Type:
+def bounded_type(of: Type) -> Type:
     """A type whose parts lie within it, whatever an ELF file says: one of which they don't is told
     as bytes."""
     size = of["size"]
     if of["kind"] == "array":
-        part = bounded(of["of"])
+        part = bounded_type(of["of"])
         return {**of, "of": part} if 0 <= of["count"] * part["size"] <= size else words_type(size)
     if of["kind"] == "fields":
-        fields: list[Dict[str, Any]] = [{**field, "type": bounded(field["type"])}
+        fields: list[Dict[str, Any]] = [{**field, "type": bounded_type(field["type"])}
                                         for field in of["fields"]]
-        return {**of, "fields": fields} if all(field["at"] >= 0 and end_of(field) <= size
+        return {**of, "fields": fields} if all(field["at"] >= 0 and end_of_parts(field) <= size
                                                for field in fields) else words_type(size)
     return of
 
 
-def end_of(field: Dict[str, Any]) -> int:
+def end_of_parts(field: Dict[str, Any]) -> int:
     size = (field["bit"] + field["bits"] + 7) // 8 if "bits" in field else field["type"]["size"]
     return int(field["at"] + size)
 

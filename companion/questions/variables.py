@@ -13,7 +13,7 @@ from ..recording.dwarf import FUNCTION as IN_FUNCTION
 from ..recording.dwarf import LOCATION, PARAMETER, VARIABLE, Dwarf
 from ..recording.elf import FUNCTION, Elf, Symbol
 from .debugger import ask_gdb
-from .types import Type, bounded, words_type
+from .types import Type, bounded_type, words_type
 
 ADDRESS = re.compile(r"(?:0x([0-9a-f]{1,8})|([0-9a-f]{8}))(?::(\d{1,7}))?", re.I)
 OFFSET = re.compile(r"(.+)\+(\d{1,7})(?::(\d{1,7}))?")
@@ -59,7 +59,7 @@ def variable_of(elf: Elf, name: str) -> Variable:
     if elf.symbols and PART.fullmatch(name):
         answer = ask_gdb(elf, variable=name)
         if answer and "address" in answer:
-            variable = Variable(name, answer["address"], bounded(answer["type"]))
+            variable = Variable(name, answer["address"], bounded_type(answer["type"]))
             if is_in_symbol(elf, variable):
                 return variable
             if found is None:

@@ -53,7 +53,7 @@ def does_more(code: Instruction) -> bool:
             or code.word & 127 == OP_AMO and code.word >> 27 in (AMO_ADD, AMO_XOR))
 
 
-def addresses_of(text: bytes, hart: int) -> array[int]:
+def waited_addresses(text: bytes, hart: int) -> array[int]:
     """Those of a hart's rows in a chunk."""
     found = array("I", unhexlify(b"".join(re.findall(rb"\n%d \d+ (\w{8}) " % hart, text))))
     found.byteswap()
@@ -95,7 +95,7 @@ class Waits:
     def take(self, text: bytes) -> None:
         owners: Sequence[bytes] = ()
         for hart in range(self.harts):
-            pcs = addresses_of(text, hart)
+            pcs = waited_addresses(text, hart)
             at = 0
             for stretch in self.stretches(pcs):
                 owners = owners or re.findall(rb"\n(\d+) ", text)

@@ -9,14 +9,14 @@ from typing import Deque, Generator, Iterable, Iterator, NamedTuple
 from ..recording.chunks import row_at
 from ..recording.cut import count_of, pc_of
 from ..recording.instruction import AMO, LOAD
-from .waiting import MOST_LOOP, Loops, addresses_of
+from .waiting import MOST_LOOP, Loops, waited_addresses
 
 PIECE = 4096            # rows that are compared at once: a slice is compared by C
 MOST_SKIPS = 1000       # of waits that were passed over: the last ones are told
 LOOKED_BACK = 16        # rows before a piece that stay known, as the way to where two part
 
 
-class Way:
+class HartWay:
     """The rows of a hart that are still to be compared.
 
     pcs     their addresses; first: the count of the first one; before: the addresses of the last
@@ -32,7 +32,7 @@ class Way:
         self.hart = hart
 
     def add(self, text: bytes) -> None:
-        self.pcs += addresses_of(text, self.hart)
+        self.pcs += waited_addresses(text, self.hart)
 
     def pass_by(self, text: bytes) -> None:
         """Takes rows that are the same in both runs."""
@@ -81,8 +81,8 @@ class Lane:
     def __init__(self, hart: int, loops: Loops) -> None:
         self.hart = hart
         self.loops = loops
-        self.good = Way(hart)
-        self.bad = Way(hart)
+        self.good = HartWay(hart)
+        self.bad = HartWay(hart)
         self.parted = self.is_over = self.waits = False
         self.skips: Deque[Skip] = deque(maxlen=MOST_SKIPS)
         self.steps = self.compare()
@@ -115,7 +115,7 @@ class Lane:
     def differs(self) -> bool:
         return bool(self.good.pcs and self.bad.pcs) and self.good.pcs[0] != self.bad.pcs[0]
 
-    def skip_waits(self, way: Way, is_bad: bool) -> Iterator[bool]:
+    def skip_waits(self, way: HartWay, is_bad: bool) -> Iterator[bool]:
         """Leaves out rounds of a loop that waits, until a hart goes as in the other run, or does
         something else."""
         skip = Skip(self.good.first, self.bad.first, is_bad)
@@ -133,12 +133,12 @@ class Lane:
         if way.first > begin:
             self.skips.append(skip)
 
-    def repeated(self, way: Way, size: int) -> int:
+    def repeated(self, way: HartWay, size: int) -> int:
         """How many rows are the first so many again and again."""
         with memoryview(way.pcs) as pcs, pcs[size:] as behind:
             return common(pcs, behind) // size * size
 
-    def waited(self, way: Way, target: int, has_waited: bool) -> Generator[bool, None, int]:
+    def waited(self, way: HartWay, target: int, has_waited: bool) -> Generator[bool, None, int]:
         """How many rows do nothing but wait, else 0. They lead back to the branch at which the ways
         parted, or to the row with which the other run continued. Then one of them loads again what
         had been loaded for the branch."""
@@ -167,7 +167,7 @@ class Lane:
                     return 0
                 yield False
 
-    def loads_again(self, way: Way, addresses: Iterable[int]) -> bool:
+    def loads_again(self, way: HartWay, addresses: Iterable[int]) -> bool:
         """Whether one of these instructions is the load behind the branch, or a copy of it
         elsewhere."""
         *before, branch = map(self.loops.code, way.before)

@@ -10,7 +10,7 @@ from typing import Iterator
 KEPT = 12 << 20             # bytes of text, about
 
 
-class Window:
+class CountWindow:
     """texts   chunks of text, in order; begins: their places"""
 
     def __init__(self, kept: int = KEPT) -> None:

@@ -49,7 +49,7 @@ class Cause(NamedTuple):
         return cls(reason, value, pc, tuple(calls))
 
 
-def last_rows(texts: Iterable[bytes], hart: int) -> List[Tuple[Frame, int]]:
+def last_jumps(texts: Iterable[bytes], hart: int) -> List[Tuple[Frame, int]]:
     """The innermost frame and the address of each of a hart's last rows."""
     head = b"\n%d " % hart
     rows = re.compile(rb"\n%d \d+ (\w{8})[^\n]*" % hart)
@@ -87,7 +87,7 @@ def ended_hart(log: Log) -> int:
 
 def cause_along(texts: Iterable[bytes], hart: int, end: End) -> Cause:
     """The cause of a hart's end, from chunks of its last rows."""
-    rows = last_rows(texts, hart)               # which refuses another program's file, too
+    rows = last_jumps(texts, hart)               # which refuses another program's file, too
     if end.reason in EXITS:
         return Cause(end.reason, end.value, 0, ())
     if not rows:

@@ -170,7 +170,7 @@ class Dwarf:
             while not names or names[-1][:2] != (0, 0):
                 name, place = unsigned(data, place)
                 form, place = unsigned(data, place)
-                constant, place = signed(data, place) if form == IMPLICIT else (0, place)
+                constant, place = signed_leb(data, place) if form == IMPLICIT else (0, place)
                 names.append((name, form, constant))
             found[code] = tag, bool(has_below), names[:-1]
         self.tables[at] = found
@@ -190,7 +190,7 @@ class Dwarf:
             end = data.index(b"\0", at)
             return data[at:min(end, at + LONGEST_NAME)].decode("latin-1"), end + 1
         if form == SIGNED:
-            return signed(data, at)
+            return signed_leb(data, at)
         if form in UNSIGNED:
             return unsigned(data, at)
         if form == UNSIGNED_REFERENCE:
@@ -258,6 +258,6 @@ def unsigned(data: bytes, at: int) -> tuple[int, int]:
     raise ValueError(found)
 
 
-def signed(data: bytes, at: int) -> tuple[int, int]:
+def signed_leb(data: bytes, at: int) -> tuple[int, int]:
     found, end = unsigned(data, at)
     return found - (1 << 7 * (end - at) if data[end - 1] & 64 else 0), end

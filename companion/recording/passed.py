@@ -15,7 +15,7 @@ LAST = 1 << 12              # letters of the last rows of a chunk, which tell mo
 NUMBERS = {name.encode(): number for number, name in enumerate(NAMES)}
 
 
-class Passed:
+class PassedRows:
     """counts   {hart: the count of its first row behind those that were passed}"""
 
     def __init__(self, log: Log, elf_name: str) -> None:
@@ -39,7 +39,7 @@ class Passed:
             interval = next((one for one in mine if one.end > count), mine[-1])
             values = found[hart] = [0, *interval.registers[1:]]
             for text in self.rows_up_to(interval, count):
-                write(values, text)
+                write_registers(values, text)
         return found
 
     def rows_up_to(self, interval: Interval, count: int) -> Iterator[bytes]:
@@ -54,7 +54,7 @@ class Passed:
                 break
 
 
-def write(values: list[int], text: bytes) -> None:
+def write_registers(values: list[int], text: bytes) -> None:
     """What some rows put into registers. The last rows tell most of it; only the rest is looked for
     in the others."""
     last = dict(RESULT.findall(text, max(0, len(text) - LAST)))

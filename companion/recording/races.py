@@ -77,7 +77,7 @@ class Columns(NamedTuple):
     hands_over: array[int]
 
 
-class Group:
+class RaceGroup:
     """number   among the groups, as they come
     word     the address of the word; places: the functions and lines of the two accesses, sorted
     fenced, ordered     whether all pairs are so
@@ -108,13 +108,13 @@ class Races:
         self.named = named
         self.places = places
         self.members = Members(named)
-        self.by_key: dict[tuple[int, str, str, bool], Group] = {}
+        self.by_key: dict[tuple[int, str, str, bool], RaceGroup] = {}
         self.place_of = lru_cache(maxsize=None)(places.where)
         self.is_fenced = lru_cache(maxsize=None)(partial(fences.is_fenced, named.word))
         self.pairs = Columns(array("B"), array("Q"), array("B"), array("Q"), array("I"), array("B"))
         self.total = 0
         self.over = False
-        self.groups: list[Group] = []
+        self.groups: list[RaceGroup] = []
 
     def read(self, harts: int, log_name: str, elf_name: str, most: int) -> Races:
         """Asks for at most so many pairs, and first for fewer, since a longer list takes the
@@ -154,7 +154,7 @@ class Races:
         key = word, names[0], names[1], fenced
         group = self.by_key.get(key)
         if group is None:
-            group = self.by_key[key] = Group(len(self.by_key), word, names, fenced)
+            group = self.by_key[key] = RaceGroup(len(self.by_key), word, names, fenced)
         group.pairs += 1
         if len(group.first) < FIRST_PAIRS:
             group.first.append((one, other))

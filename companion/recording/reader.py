@@ -14,7 +14,7 @@ from .calls import Calls
 from .chunks import places
 from .instruction import A0, A1, A7, AMO, CALL, JUMP, LOAD, STORE, Instruction
 from .log import FAILED, LONGEST_CALL, READ_CALL
-from .rows import CHANGED, FAULTS, KEEPS, LOADS, OFFSET, STORES, UNSTORED, Fault, ReadCall, Rows
+from .rows import CHANGED, FAULTS, KEEPS, LOADS, OFFSET, STORES, UNSTORED, FaultRow, ReadCall, Rows
 from .writers import Writers
 
 # What a row does beside LOADS and STORES: it writes a register; it is a call, a return or a jump to
@@ -48,7 +48,7 @@ RESULTS = [slice(-8 - behind, -behind or None) if shape & WRITES else None
            for shape in range(64) for behind in [BEHIND[shape & BOTH]]]
 
 
-class State:
+class HartState:
     """What is known of a hart while its rows are read: of each register the row that wrote it, and
     what it held before the first row; the count of its next row."""
     __slots__ = ("number", "writers", "values", "count")
@@ -60,10 +60,10 @@ class State:
         self.values = [0, *registers[1:]]
 
 
-class Turn(NamedTuple):
+class ChunkTurn(NamedTuple):
     """Rows of a hart that follow each other in a chunk, as places in it; the count of the first;
     the letters before their addresses."""
-    hart: State
+    hart: HartState
     begin: int
     end: int
     first: int
@@ -81,7 +81,7 @@ class Codes(Dict[bytes, int]):
         self.shapes: list[int] = []
         self.registers: list[tuple[int, int, int]] = []
 
-    def of(self, lines: Sequence[bytes], turns: Sequence[Turn]) -> list[int]:
+    def of(self, lines: Sequence[bytes], turns: Sequence[ChunkTurn]) -> list[int]:
         found: list[int] = []
         for _, begin, end, _, letters in turns:
             keys = list(map(itemgetter(slice(letters, letters + KEY)), lines[begin:end]))
@@ -123,10 +123,10 @@ class Reader:
         self.calls = calls
         self.codes = Codes(rows, calls)
         first = rows.log.first_intervals()
-        self.harts = {i: State(i, first[i].registers if i in first else (0,) * 32)
+        self.harts = {i: HartState(i, first[i].registers if i in first else (0,) * 32)
                       for i in range(rows.log.harts)}
         self.numbers = {b"%-2d" % hart: hart for hart in self.harts}
-        self.hart: Optional[State] = None       # whose row was read last
+        self.hart: Optional[HartState] = None       # whose row was read last
         self.latest: dict[int, tuple[int, int]] = {}
         self.start = 0
 
@@ -172,7 +172,7 @@ class Reader:
             return bytes(self.harts) * len(lines)
         return bytes(map(self.numbers.__getitem__, [line[:2] for line in lines]))
 
-    def turns(self, lines: Sequence[bytes], harts: bytes) -> list[Turn]:
+    def turns(self, lines: Sequence[bytes], harts: bytes) -> list[ChunkTurn]:
         """The turns of a chunk. A turn is cut where its counts get a digit more."""
         changes = (compress(range(1, len(harts)), map(ne, harts, harts[1:])) if len(self.harts) > 1
                    else ())
@@ -189,7 +189,7 @@ class Reader:
                     hart.count = int(lines[begin].split(b" ", 2)[1])
                     size = 1
                     head = b"%d %d " % (hart.number, hart.count)
-                found.append(Turn(hart, begin, begin + size, hart.count, len(head)))
+                found.append(ChunkTurn(hart, begin, begin + size, hart.count, len(head)))
                 begin = begin + size
                 hart.count = hart.count + size
         return found
@@ -215,7 +215,7 @@ class Reader:
                 self.rows.silent.add(self.start + place)
         return dict(sorted(found.items()))
 
-    def link(self, turns: Sequence[Turn], codes: Sequence[int],
+    def link(self, turns: Sequence[ChunkTurn], codes: Sequence[int],
              alone: dict[int, list[bytes]]) -> None:
         """Finds of each row the rows that wrote its registers."""
         stops = iter([*alone, len(codes)])
@@ -235,7 +235,7 @@ class Reader:
             self.link_rows(hart, codes[at:turn.end], self.start + at)
             kept.last = self.start + turn.end - 1
 
-    def link_rows(self, hart: State, codes: Sequence[int], n: int) -> None:
+    def link_rows(self, hart: HartState, codes: Sequence[int], n: int) -> None:
         """The one loop over all rows."""
         firsts: list[int] = []
         seconds: list[int] = []
@@ -248,7 +248,7 @@ class Reader:
         self.writers.first.fromlist(firsts)
         self.writers.second.fromlist(seconds)
 
-    def link_alone(self, hart: State, n: int, fault: list[bytes]) -> None:
+    def link_alone(self, hart: HartState, n: int, fault: list[bytes]) -> None:
         """A row that faulted, or else a system call."""
         rows = self.rows
         wrote = self.writers
@@ -269,9 +269,9 @@ class Reader:
         wrote.first.append(hart.writers[ins.rs1] if is_here else wrote.first[before])
         wrote.second.append(0)
         rows.flags[n] = FAULTS
-        rows.fault = Fault(n, hart.number, name, int(fault[1], 16), ins)
+        rows.fault = FaultRow(n, hart.number, name, int(fault[1], 16), ins)
 
-    def value(self, hart: State, register: int) -> int:
+    def value(self, hart: HartState, register: int) -> int:
         """What a register holds, by the row that wrote it."""
         return (self.rows.values[hart.writers[register]] if hart.writers[register]
                 else hart.values[register])

@@ -48,7 +48,7 @@ class Hart:
         self.counts.append(count)
 
 
-class Fault(NamedTuple):
+class FaultRow(NamedTuple):
     row: int
     hart: int
     name: str
@@ -93,7 +93,7 @@ class Rows:
         self.harts = {hart: Hart() for hart in range(log.harts)}
         self.last: dict[int, int] = {}
         self.final: dict[int, list[int]] = {}
-        self.fault: Optional[Fault] = None
+        self.fault: Optional[FaultRow] = None
         self.size = self.passed = 0
 
     def code_of(self, n: int) -> Instruction:

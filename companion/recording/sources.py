@@ -30,7 +30,7 @@ class Sources:
         self.folders = [os.path.realpath(folder) for folder in (*self.beside, "")]
         self.texts: dict[str, list[str]] = {}
         self.outside = self.newer = ""
-        self.built = changed(elf)
+        self.built = changed_at(elf)
 
     def lines(self, path: str) -> list[str]:
         """The lines of a source, if it is there."""
@@ -47,7 +47,8 @@ class Sources:
             real = os.path.realpath(name)
             if real.endswith(SUFFIXES) and os.path.isfile(real) and not real.startswith(SYSTEM):
                 if any(is_below(real, folder) for folder in self.folders):
-                    self.newer = self.newer or (name if changed(real) > self.built + LATER else "")
+                    self.newer = self.newer or (name if changed_at(real) > self.built + LATER
+                                                else "")
                     return text_of(real).split("\n")
                 outside = outside or name
         self.outside = self.outside or outside
@@ -63,7 +64,7 @@ class Sources:
         return said + ([newer] if self.newer else [])
 
 
-def changed(path: str) -> float:
+def changed_at(path: str) -> float:
     """When a file was changed last; 0 if there is none."""
     try:
         return os.stat(path).st_mtime

@@ -6,7 +6,7 @@ from typing import NamedTuple, Optional
 from .calls import Calls, Entries
 from .chunks import OTHER_LINES, after, chunks
 from .log import At, Log
-from .passed import Passed
+from .passed import PassedRows
 from .reader import Reader
 from .rows import Rows
 from .writers import Writers
@@ -32,10 +32,10 @@ def read_trace(log: Log, elf_name: str, entries: Optional[Entries] = None, most:
     end = b""
     if asked and most and rows > most:
         rows = rows_before(log, elf_name, asked)
-        end = head_of(asked)
+        end = row_begin(asked)
     trace.rows.passed = max(0, rows - most) if most else 0
     reader = Reader(*trace)
-    passed = Passed(log, elf_name)
+    passed = PassedRows(log, elf_name)
     for text in after(trace.rows.passed, chunks(log.name, elf_name, log=log), passed.take):
         if trace.rows.passed and not reader.start:
             reader.begin_behind(passed.registers())
@@ -63,7 +63,7 @@ def rows_before(log: Log, elf_name: str, asked: At) -> int:
     """How many rows come before one."""
     rows = 0
     for text in chunks(log.name, elf_name, log=log):
-        at = text.find(head_of(asked))
+        at = text.find(row_begin(asked))
         if at >= 0:
             rows += text.count(b"\n", 0, at)
             break
@@ -71,6 +71,6 @@ def rows_before(log: Log, elf_name: str, asked: At) -> int:
     return rows
 
 
-def head_of(at: At) -> bytes:
+def row_begin(at: At) -> bytes:
     """What a row begins with."""
     return b"\n%d %d " % (at.hart, at.count)

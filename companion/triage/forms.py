@@ -59,6 +59,6 @@ def junit_text(table: Table) -> str:
         lines.append("</testcase>")
     for why, files in unread:
         message = xml_attribute(counted(len(files), "log"))
-        lines.append(f"<testcase classname=\"unread\" name={xml_attribute(why)}><error message={message}>"
-                     f"{xml_text(files[0].name)}</error></testcase>")
+        lines.append(f"<testcase classname=\"unread\" name={xml_attribute(why)}><error "
+                     f"message={message}>{xml_text(files[0].name)}</error></testcase>")
     return "\n".join(lines + ["</testsuite>", ""])

@@ -11,7 +11,7 @@ from multiprocessing.connection import Connection, wait
 from typing import Any, Generator, Iterable, NoReturn, Optional
 
 from ..call import streams
-from ..call.children import Group, tie
+from ..call.children import ProcessGroup, tie
 from .work import MOST_SECONDS, TOO_LONG, UNREAD, WHY_SECONDS, Answer, Task, Work, limit_memory
 
 # A process that says nothing is ended once its group has taken no processor time for so many
@@ -71,7 +71,7 @@ def serve(pipe: Connection, parent: int, signals: set[Any]) -> NoReturn:
         streams.on_interrupt(streams.interrupt)
         signal.signal(signal.SIGTERM, streams.interrupt)
         tie(parent, signal.SIGTERM)
-        Group().join()
+        ProcessGroup().join()
         signal.pthread_sigmask(signal.SIG_SETMASK, signals)
         limit_memory()
         while True:

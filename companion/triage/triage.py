@@ -10,7 +10,7 @@ from ..call import streams
 from ..call.errors import FOUND, MISSING, CompanionError
 from ..call.help import Help
 from ..call.options import read_words
-from ..call.page import Part, page
+from ..call.page import PagePart, page
 from ..call.kinds import PAGE
 from ..call.saving import Target, target
 from ..call.text import clean, counted, number
@@ -96,14 +96,14 @@ def lines_of(group: Group) -> list[str]:
     return lines + [clean(group.command())]
 
 
-def parts_of(table: Table) -> list[Part]:
+def table_parts(table: Table) -> list[PagePart]:
     """The table, most frequent first; then what isn't read."""
-    parts = [Part("", [table.heading()])]
-    parts += [Part(f"{number(group.count)}  {group.bucket.line()}", lines_of(group))
+    parts = [PagePart("", [table.heading()])]
+    parts += [PagePart(f"{number(group.count)}  {group.bucket.line()}", lines_of(group))
               for group in table.sorted()]
     if table.unread:
-        parts.append(Part("NOT READ",
-                          [unread_line(why, files) for why, files in table.sorted_unread()]))
+        parts.append(PagePart("NOT READ",
+                              [unread_line(why, files) for why, files in table.sorted_unread()]))
     return parts
 
 
@@ -112,7 +112,7 @@ def unread_line(why: str, files: Sequence[File]) -> str:
             + (" and others" if len(files) > 1 else ""))
 
 
-def saved_text(option: str, table: Table, parts: list[Part]) -> str:
+def saved_text(option: str, table: Table, parts: list[PagePart]) -> str:
     if option == "--html":
         return page(table.heading(), parts[1:])
     return json_text(table) if option == "--json" else junit_text(table)
@@ -135,7 +135,7 @@ def main(words: list[str]) -> int:
     table = table_of(logs, elfs, ask([Task(file.name, elfs[file.program])
                                       for file in logs.files if file.program in elfs], "log"))
     with_suspects(table)
-    parts = parts_of(table)
+    parts = table_parts(table)
     for option, place in targets.items():
         place.save(saved_text(option, table, parts).encode("utf-8", "backslashreplace"))
     streams.put_lines(line for part in parts for line in [""] * bool(part.heading) + part.text())

@@ -15,7 +15,7 @@ FIRST_BOXES = 5  # of a long way without a fork
 LAST_BOXES = 2  # between them a box says how many rows are left out
 
 
-class Way(NamedTuple):
+class SuspectWay(NamedTuple):
     """A suspect that the history leads to: the row there, the guilty row, and the suspect's
     kind."""
     row: int
@@ -35,7 +35,7 @@ class Box:
         self.next: list[Box] = []
 
 
-class Ways:
+class ChainWays:
     """The tree of rows: of each row those that it needed, and how each of these was needed."""
 
     def __init__(self, page: Page, search: History, goals: Sequence[int]) -> None:
@@ -96,7 +96,7 @@ class Boxes:
     """The nodes and links of the page. A fork's first way continues in its column, each other takes
     a new one."""
 
-    def __init__(self, page: Page, suspects: Mapping[int, Sequence[tuple[int, Way]]],
+    def __init__(self, page: Page, suspects: Mapping[int, Sequence[tuple[int, SuspectWay]]],
                  origins: Mapping[int, str]) -> None:
         """Both are by rows: suspects with their ranks, and origins in words."""
         self.page = page
@@ -149,14 +149,14 @@ class Boxes:
                 "at": self.page.point(row), "told": self.told(row)}
 
 
-def chain_boxes(page: Page, history: History, suspects: Iterable[Way],
+def chain_boxes(page: Page, history: History, suspects: Iterable[SuspectWay],
                 origins: Mapping[int, str]) -> dict[str, Any]:
     """{nodes, links} as the page's script reads them. `suspects` come likeliest first; `origins` is
     {row of a load that no row stored: where its word came from}."""
-    by_row: dict[int, list[tuple[int, Way]]] = {}
+    by_row: dict[int, list[tuple[int, SuspectWay]]] = {}
     for rank, way in enumerate(suspects, 1):
         by_row.setdefault(way.row, []).append((rank, way))
-    ways = Ways(page, history, list(by_row) + list(origins) or [history.start])
+    ways = ChainWays(page, history, list(by_row) + list(origins) or [history.start])
     boxes = Boxes(page, by_row, origins)
     boxes.add(ways.box(history.start), 0, 0)
     return {"nodes": boxes.nodes, "links": boxes.links}

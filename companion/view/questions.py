@@ -7,10 +7,10 @@ from typing import Any, Iterable, Iterator, Optional, Sequence, Union
 
 from ..call.errors import CompanionError
 from ..questions.at import Passes
-from ..questions.calls import Call, Calls, add_texts, said_arguments, said_result
+from ..questions.calls import Call, FoundCalls, add_texts, said_arguments, said_result
 from ..questions.expressions import LINE, compiled_by_gdb
 from ..questions.functions import function_of
-from ..questions.history import History
+from ..questions.history import VariableHistory
 from ..questions.reading import Asked, read
 from ..questions.variables import Variable, variable_of
 from ..recording.elf import Elf
@@ -48,10 +48,10 @@ def variables_of(named: Elf, words: Iterable[int]) -> list[Variable]:
     return list(found.values())
 
 
-def calls_in(asked: Asked, names: Iterable[str]) -> Iterator[Calls]:
+def calls_in(asked: Asked, names: Iterable[str]) -> Iterator[FoundCalls]:
     for name in list(dict.fromkeys(filter(None, names)))[:FUNCTIONS]:
         try:
-            yield Calls(asked, function_of(asked.named, name), TOLD, None)
+            yield FoundCalls(asked, function_of(asked.named, name), TOLD, None)
         except CompanionError:
             continue
 
@@ -84,12 +84,12 @@ def questions_data(page: Page, crash: Analysis, suspects: Sequence[Suspect],
                               *(frame.function for frame in crash.callers(row))]]
     asked = Asked(crash.log, crash.elf, crash.named, crash.places)
     stacks = asked.stacks()
-    histories = [History(asked, stacks, variable, TOLD, False)
+    histories = [VariableHistory(asked, stacks, variable, TOLD, False)
                  for variable in variables_of(asked.named, words)]
     calls = list(calls_in(asked, functions))
     lines = [crash.places.line(rows.code_of(row).pc) for row in [crash.start, *guilty]]
     passes = list(passes_in(asked, lines))
-    every: list[Union[History, Calls, Passes]] = [*histories, *calls, *passes]
+    every: list[Union[VariableHistory, FoundCalls, Passes]] = [*histories, *calls, *passes]
     read(asked.chunks(), stacks, *every)
     for each in calls:
         each.finish()
@@ -104,7 +104,7 @@ def questions_data(page: Page, crash: Analysis, suspects: Sequence[Suspect],
                       for found in passes]}
 
 
-def history_data(page: Page, found: History) -> dict[str, Any]:
+def history_data(page: Page, found: VariableHistory) -> dict[str, Any]:
     variable = found.variable
     return {"title": variable.what(), "first": variable.address & ~3, "end": variable.end,
             "stores": found.total,

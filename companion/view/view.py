@@ -17,9 +17,9 @@ from ..call.help import Help
 from ..call.options import read_words
 from ..call.text import as_text, number
 from ..call.version import version
-from ..why.race import Judged, family_word, pairs_of
+from ..why.race import Judged, family_word, race_pairs
 from ..recording.instruction import NAMES
-from ..recording.races import AccessPair, Group, Races
+from ..recording.races import AccessPair, RaceGroup, Races
 from ..recording.story import Story, Teller, asked_story
 from ..why.analysis import Analysis, analysed
 from ..why.facts import asked_byte
@@ -29,7 +29,7 @@ from ..why.memory_part import MemoryErrors
 from ..why.origins import advice
 from ..why.report import output_lines, unread
 from ..why.suspect import ALONE, DID, NEW_OWNER, Suspect
-from .chain import Way, chain_boxes
+from .chain import SuspectWay, chain_boxes
 from .data import Page, PageEdge, story_data
 from .questions import questions_data
 from .rows import PageRows
@@ -124,13 +124,13 @@ class View:
                             for family in families[:RACE_GROUPS]]
         self.race_total = len(families)
 
-    def race_group(self, races: Races, judged: Judged, family: list[Group]) -> dict[str, Any]:
+    def race_group(self, races: Races, judged: Judged, family: list[RaceGroup]) -> dict[str, Any]:
         """A family of groups for the page; the pair that tells most comes first."""
         one, other = judged.pair(family[0])
         pairs = [pair for group in family
                  for pair in group.first if pair[0] is not one or pair[1] is not other]
         arcs = [self.arc(pair) for pair in [(one, other)] + pairs[:ARCS - 1]]
-        return dict(pairs=pairs_of(family), word=family_word(races, family), kind=family[0].kind,
+        return dict(pairs=race_pairs(family), word=family_word(races, family), kind=family[0].kind,
                     judged=judged.reason(family[0]), first=self.page.place(one.pc),
                     second=self.page.place(other.pc), arcs=arcs)
 
@@ -180,23 +180,23 @@ class View:
         came = f"No row that the log holds stored it. It came from: {'; '.join(origin[:3])}."
         return " ".join([came] + advice(self.log))
 
-    def ways(self) -> list[Way]:
+    def ways(self) -> list[SuspectWay]:
         cost = self.crash.history.cost
-        found: list[Way] = []
+        found: list[SuspectWay] = []
         for item in self.suspects:
             row = next((row for row in (item.guilty, item.store, item.load) if row in cost), None)
             if row is not None:
-                found.append(Way(row, item.guilty, item.kind))
+                found.append(SuspectWay(row, item.guilty, item.kind))
         return found
 
-    def origins_drawn(self, ways: Sequence[Way]) -> dict[int, str]:
+    def origins_drawn(self, ways: Sequence[SuspectWay]) -> dict[int, str]:
         """{row: words} of loads that no row stored, if there are few suspects."""
         cost = self.crash.history.cost
         nearest = sorted(self.crash.origin.items(), key=lambda item: cost[item[1].nearest])
         return ({loads.nearest: origin.words for origin, loads in nearest[:2]} if len(ways) < 2
                 else {})
 
-    def rows(self, edges: Sequence[PageEdge], ways: Sequence[Way],
+    def rows(self, edges: Sequence[PageEdge], ways: Sequence[SuspectWay],
              origins: Mapping[int, str]) -> PageRows:
         history = self.crash.history
         rows = PageRows(self.page)

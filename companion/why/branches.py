@@ -8,7 +8,7 @@ from typing import NamedTuple
 from ..call.text import number
 from .facts import Facts
 from .history import History
-from .loops import codes_of, operands_of, pairs_of, times_of
+from .loops import codes_of, operands_of, pairs_of, code_times
 from .lost import cut_behind
 from .suspect import Extra, Suspect
 
@@ -80,7 +80,7 @@ def add_stored(facts: Facts, suspect: Suspect) -> None:
                 suspect.extra.append(Extra("a value that it compared was stored in", operand.store))
 
 
-class Way(NamedTuple):
+class BranchWay(NamedTuple):
     """How often a branch went as it did in a row, how often it ran, and whether that way leads
     back."""
     times: int
@@ -88,7 +88,7 @@ class Way(NamedTuple):
     is_back: bool
 
 
-def judge_way(suspect: Suspect, way: Way) -> None:
+def judge_way(suspect: Suspect, way: BranchWay) -> None:
     if way.is_back:
         suspect.shown = bool(suspect.extra)
     elif way.all_times >= USUAL_ROWS and way.times * 10 >= way.all_times * 9:
@@ -106,13 +106,13 @@ class Ways:
             self.times.update(loop.pairs + pairs_of(loop.codes[:loop.begin + 1]))
         for hart in set(self.rows.last) - {loop.hart for loop in facts.loops}:
             self.times.update(pairs_of(codes_of(self.rows, hart)))
-        self.all_times = times_of(self.times)
+        self.all_times = code_times(self.times)
 
-    def of(self, row: int) -> Way:
+    def of(self, row: int) -> BranchWay:
         rows = self.rows
         n = self.rows.following(row)
         if not n:
-            return Way(0, 0, False)
+            return BranchWay(0, 0, False)
         at = rows.code[row]
-        return Way(self.times[at, rows.code[n]], self.all_times[at],
-                   rows.code_of(n).pc < rows.code_of(row).pc)
+        return BranchWay(self.times[at, rows.code[n]], self.all_times[at],
+                         rows.code_of(n).pc < rows.code_of(row).pc)

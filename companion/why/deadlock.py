@@ -8,7 +8,7 @@ from typing import NamedTuple, Optional, Sequence
 from ..recording.instruction import AMO
 from .facts import Facts, StackFrame
 from .lock_words import Setting
-from .locks import name_of
+from .locks import lock_name
 from .loops import Loop
 
 EMPTY = re.compile(r" \| load \w{8}=00000000 \| store ")
@@ -22,7 +22,7 @@ class Taken(NamedTuple):
     row: int
 
 
-class Wait(NamedTuple):
+class LockWait(NamedTuple):
     """A hart whose loop would end once a lock is free, the row that looked at it last, and how it
     was taken. `is_kept`: that was before the loop in which the holder is."""
     hart: int
@@ -32,7 +32,7 @@ class Wait(NamedTuple):
     is_kept: bool
 
 
-def waits_of(facts: Facts, changes: Sequence[Setting]) -> list[Wait]:
+def waits_of(facts: Facts, changes: Sequence[Setting]) -> list[LockWait]:
     """The harts at their limit that wait for a lock which is held."""
     holders: dict[int, int] = {}            # {lock: the row that took it last, if it is still held}
     for n, lock, is_set in changes:
@@ -44,7 +44,7 @@ def waits_of(facts: Facts, changes: Sequence[Setting]) -> list[Wait]:
     return [wait for wait in found if wait]
 
 
-def wait_of(facts: Facts, loop: Loop, holders: dict[int, int]) -> Optional[Wait]:
+def wait_of(facts: Facts, loop: Loop, holders: dict[int, int]) -> Optional[LockWait]:
     """What would end the loop is a word that isn't 0, and that its holder would set to 0."""
     for item in loop.exits:
         load = item.operands[0].load if item.leads_out and len(item.operands) == 1 else 0
@@ -52,7 +52,8 @@ def wait_of(facts: Facts, loop: Loop, holders: dict[int, int]) -> Optional[Wait]
         taken = taken_in(facts, holders.get(lock, 0)) or taken_before(facts, load)
         if taken:
             is_kept = all(each.hart != taken.hart or taken.row < each.first for each in facts.loops)
-            return Wait(loop.hart, lock, last_try(facts, loop.hart, lock) or load, taken, is_kept)
+            return LockWait(loop.hart, lock, last_try(facts, loop.hart, lock) or load,
+                            taken, is_kept)
     return None
 
 
@@ -78,14 +79,14 @@ def last_try(facts: Facts, hart: int, lock: int) -> int:
     return 0
 
 
-def in_circle(waits: Sequence[Wait]) -> list[Wait]:
+def in_circle(waits: Sequence[LockWait]) -> list[LockWait]:
     """Those that wait for each other, in their order from the lowest hart on. One that waits for
     itself is a circle, too. A holder that took the lock in its own loop gives it back there: that
     is no circle."""
     by_hart = {wait.hart: wait for wait in waits if wait.is_kept}
     for first in by_hart.values():
-        circle: list[Wait] = []
-        wait: Optional[Wait] = first
+        circle: list[LockWait] = []
+        wait: Optional[LockWait] = first
         while wait and wait not in circle:
             circle.append(wait)
             wait = by_hart.get(wait.taken.hart)
@@ -105,7 +106,7 @@ def deadlock_lines(facts: Facts) -> list[str]:
     return said + [wait_words(facts, wait) + "." for wait in waits if wait not in circle]
 
 
-def wait_words(facts: Facts, wait: Wait) -> str:
+def wait_words(facts: Facts, wait: LockWait) -> str:
     """A hart, its place, the lock, who holds it, and since what place. If both places are in one
     function, that takes locks: what called it is told."""
     holder = wait.taken.hart
@@ -115,7 +116,7 @@ def wait_words(facts: Facts, wait: Wait) -> str:
     end = facts.log.ends.get(holder)
     ended = f", which ended ({end.reason})" if end and end.reason != "limit" else ""
     owner = "which it holds itself" if holder == wait.hart else f"of hart {holder}"
-    return (f"hart {wait.hart} ({here}) waits for {name_of(facts, wait.lock)} "
+    return (f"hart {wait.hart} ({here}) waits for {lock_name(facts, wait.lock)} "
             f"{owner} ({there}){ended}")
 
 

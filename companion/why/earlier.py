@@ -21,7 +21,7 @@ MOST_CALLS = 3
 MOST_WITH_CALLS = 3
 
 
-class Asked(NamedTuple):
+class AskedBytes(NamedTuple):
     """Bytes of a word, as a mask, that a row loaded and that none of the rows that were read gave
     their value."""
     word: int
@@ -38,11 +38,11 @@ class Earlier(NamedTuple):
     calls: list[int]
 
 
-class Search:
+class EarlierSearch:
     """The latest store to each byte that is asked of, among the rows of a log before those that
     were read."""
 
-    def __init__(self, log: Log, rows: Rows, asked: list[Asked]) -> None:
+    def __init__(self, log: Log, rows: Rows, asked: list[AskedBytes]) -> None:
         self.asked = asked
         self.log = log
         self.pattern = touching_any([(each.word, each.word + 4) for each in asked], STORE)
@@ -71,7 +71,7 @@ class Search:
                 self.found.update(dict.fromkeys(mine, row))
                 wanted -= mine
 
-    def row_of(self, asked: Asked, value: int) -> Optional[bytes]:
+    def row_of(self, asked: AskedBytes, value: int) -> Optional[bytes]:
         """The row that stored the lowest of some bytes, if it gave them this value: a `read` call
         may have come between."""
         row = self.found.get(asked.word + (asked.rest & -asked.rest).bit_length() - 1)
@@ -90,24 +90,24 @@ class Search:
 
 
 def earlier(source: LogFile, elf_name: str, trace: Trace,
-            loads: Iterable[int]) -> dict[Asked, Earlier]:
+            loads: Iterable[int]) -> dict[AskedBytes, Earlier]:
     """The stores that gave the words of some loads their value, of those that are found among the
     last rows of a log."""
-    wanted: dict[Asked, int] = {}
+    wanted: dict[AskedBytes, int] = {}
     for n in loads:
         rest = trace.writers.stores(n).rest
         if rest and len(wanted) < MOST_WORDS:
-            wanted.setdefault(Asked(trace.rows.access(n).address & ~3, rest),
+            wanted.setdefault(AskedBytes(trace.rows.access(n).address & ~3, rest),
                               trace.rows.access(n).value)
     if not wanted:
         return {}
     log = source.end(MOST_ROWS)
-    search = Search(log, trace.rows, list(wanted))
+    search = EarlierSearch(log, trace.rows, list(wanted))
     for text in chunks(log.name, elf_name, log=log):
         search.take(text)
         if search.is_done(text):
             break
-    found: dict[Asked, Earlier] = {}
+    found: dict[AskedBytes, Earlier] = {}
     for asked, value in wanted.items():
         row = search.row_of(asked, value)
         if row:

@@ -14,7 +14,7 @@ from ..recording.opened import Program
 from ..recording.places import Frame
 from ..recording.rows import LOADS
 from ..recording.trace import Trace
-from .earlier import Asked, Earlier
+from .earlier import AskedBytes, Earlier
 from .lock_words import Setting, setting
 from .loops import Loop
 
@@ -88,7 +88,7 @@ class Facts:
         self.rows, self.writers, self.calls = trace
         self.owns: dict[int, StackFrame | None] = {}
         self.members = Members(self.named)
-        self.earlier: dict[Asked, Earlier] = {}
+        self.earlier: dict[AskedBytes, Earlier] = {}
         lack = lack_of(self.named, self.places)
         self.notes = [lack] if lack else []
         if not trace.rows.last:
@@ -142,7 +142,7 @@ class Facts:
     def earlier_of(self, load: int) -> Earlier | None:
         """The store before the rows that gave a load's bytes their value, if it was found."""
         word = self.rows.access(load).address & ~3
-        return self.earlier.get(Asked(word, self.writers.stores(load).rest))
+        return self.earlier.get(AskedBytes(word, self.writers.stores(load).rest))
 
     def own(self, n: int) -> StackFrame | None:
         """The innermost frame over a row whose source is here, or None. What a library did is told

@@ -4,7 +4,7 @@ from __future__ import annotations
 from ..call.text import as_text
 from ..recording.elf import Elf
 from ..recording.instruction import AMO, LOAD, NAMES, OP_SYSTEM, STORE
-from ..recording.rows import Fault, Rows
+from ..recording.rows import FaultRow, Rows
 
 # Words that other processors know, and registers that words with this opcode access.
 PRIVILEGED = {0x30200073: "mret", 0x10200073: "sret", 0x10500073: "wfi"}
@@ -20,7 +20,7 @@ PAGE = 4096                 # nothing below is mapped
 VERBS = {"Load": "loads from", "Store": "stores to", "Fetch": "jumps to", "Target": "jumps to"}
 
 
-def fault_words(rows: Rows, fault: Fault, elf: Elf) -> list[str]:
+def fault_words(rows: Rows, fault: FaultRow, elf: Elf) -> list[str]:
     value = fault.value
     ins = fault.instruction
     said = [reason(rows, elf, fault)]
@@ -37,7 +37,7 @@ def fault_words(rows: Rows, fault: Fault, elf: Elf) -> list[str]:
     return said + jump_words(rows, fault)
 
 
-def reason(rows: Rows, elf: Elf, fault: Fault) -> str:
+def reason(rows: Rows, elf: Elf, fault: FaultRow) -> str:
     name = fault.name
     value = fault.value
     ins = fault.instruction
@@ -48,7 +48,8 @@ def reason(rows: Rows, elf: Elf, fault: Fault) -> str:
     if name == "Illegal":
         return f"{value:08x} is no instruction of RV32IMA{illegal_words(value)}."
     if name == "StoreReadOnly":
-        return f"It stores to {value:08x}, which is in a read-only segment{near(elf, value)}."
+        return (f"It stores to {value:08x}, "
+                f"which is in a read-only segment{near_address(elf, value)}.")
     if name.endswith("Misaligned"):
         return (f"It {verb} {value:08x}, "
                 f"which is no multiple of {4 if name[0] == 'T' else ins.width}.")
@@ -76,12 +77,12 @@ def illegal_words(word: int) -> str:
             else "")
 
 
-def near(elf: Elf, address: int) -> str:
+def near_address(elf: Elf, address: int) -> str:
     name = elf.data_name(address)
     return f" ({name})" if name else ""
 
 
-def jump_words(rows: Rows, fault: Fault) -> list[str]:
+def jump_words(rows: Rows, fault: FaultRow) -> list[str]:
     last = rows.last_rows(fault.row, 2)
     if fault.name != "FetchOutside" or len(last) < 2:
         return []

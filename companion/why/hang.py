@@ -67,7 +67,7 @@ def exit_lines(facts: Facts, loop: Loop, item: Exit) -> list[str]:
     return said + (["      the other value is 0"] if len(item.operands) < 2 else [])
 
 
-def value_of(facts: Facts, loop: Loop, operand: Operand) -> Optional[int]:
+def stored_value(facts: Facts, loop: Loop, operand: Operand) -> Optional[int]:
     """What a branch compared. A register that no row wrote, and the loop doesn't, is as it is at
     the end."""
     if operand.row:
@@ -80,7 +80,7 @@ def operand_words(facts: Facts, loop: Loop, operand: Operand) -> str:
     """What a value is, which row loaded it, and who stored it last."""
     rows = facts.rows
     writers = facts.writers
-    value = value_of(facts, loop, operand)
+    value = stored_value(facts, loop, operand)
     told = rows.load_of(operand.load) if operand.load else None
     said = f"{NAMES[operand.register]} is " + ("unknown" if value is None else f"{value:08x}")
     if told is None:
@@ -105,7 +105,7 @@ def moment(facts: Facts, n: int) -> str:
     return f"{facts.where(n)} (hart {facts.rows.hart[n]} at count {number(facts.rows.count_of(n))})"
 
 
-class Line(NamedTuple):
+class StoppedLine(NamedTuple):
     """A source line that ran often and then never again: its latest row, how often it ran, and
     whether it stored what an exit loads."""
     latest: int
@@ -118,12 +118,13 @@ def stopped_lines(facts: Facts, loop: Loop, most: int) -> list[str]:
     wanted = {operand.store for item in loop.exits for operand in item.operands}
     running = {facts.places.line(facts.rows.codes[at].pc) for at in loop.places}
     facts.places.fetch({facts.pc_of(item.row) for item in loop.stopped})
-    lines: dict[str, Line] = {}
+    lines: dict[str, StoppedLine] = {}
     for row, times in loop.stopped:             # (of a line the latest row comes first)
         name = facts.line(row)
         if name not in running:
-            line = lines.get(name, Line(row, times, False))
-            lines[name] = Line(line.latest, max(line.times, times), line.is_wanted or row in wanted)
+            line = lines.get(name, StoppedLine(row, times, False))
+            lines[name] = StoppedLine(line.latest, max(line.times, times),
+                                      line.is_wanted or row in wanted)
     found = sorted(lines.values(), key=lambda line: (not line.is_wanted, -line.latest))
     said = ["  These ran often, and then never again:"] if found else []
     for line in found[:most]:

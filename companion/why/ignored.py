@@ -8,7 +8,7 @@ from typing import List, NamedTuple, Pattern, Sequence
 from ..call.errors import REFUSED, CompanionError
 from ..call.files import check_regular
 from ..recording.places import Frame
-from ..recording.races import Group, Races
+from ..recording.races import RaceGroup, Races
 
 MOST_LINES = 10000          # each is compared with each group of races
 LONGEST = 200               # letters
@@ -39,7 +39,7 @@ class Ignored(NamedTuple):
         return cls([[re.compile(re.escape(name).replace(r"\*", ".*")) for name in line.split(AND)]
                     for line in lines if line])
 
-    def fits(self, races: Races, group: Group) -> bool:
+    def fits(self, races: Races, group: RaceGroup) -> bool:
         """Whether a line names the word of a group, one of its places, or both."""
         if not self.patterns:
             return False

@@ -59,9 +59,10 @@ def unlocked(facts: Facts, history: History) -> list[Suspect]:
         if lock != word and bare and times >= LEAST and times >= RARE * len(bare):
             guilty = (stores or bare)[-1]
             found.append(suspect_of(facts, guilty.row, [each.row for each in bare], nearest[word]))
-            own = ", ".join(name_of(facts, each) for each in sorted(guilty.locks)) or "none"
-            found[-1].sign(UNLOCKED, f"at {number(times)} other accesses to {name_of(facts, word)} "
-                           f"their hart holds {name_of(facts, lock)}, here {own}")
+            own = ", ".join(lock_name(facts, each) for each in sorted(guilty.locks)) or "none"
+            found[-1].sign(UNLOCKED,
+                           f"at {number(times)} other accesses to {lock_name(facts, word)} their "
+                           f"hart holds {lock_name(facts, lock)}, here {own}")
     return found
 
 
@@ -87,7 +88,7 @@ def bare_of(rows: Rows, held: Sequence[Held], lock: int, changes: Sequence[Setti
     return bare
 
 
-def name_of(facts: Facts, word: int) -> str:
+def lock_name(facts: Facts, word: int) -> str:
     return facts.members.name(word) or f"{word:08x}"
 
 

@@ -61,7 +61,7 @@ class Loop:
 
     def __init__(self, trace: Trace, hart: int) -> None:
         self.trace, self.rows, self.hart, self.last = trace, trace.rows, hart, trace.rows.last[hart]
-        mine = rows_of(trace.rows, hart)
+        mine = loop_rows(trace.rows, hart)
         self.of_hart = array("I", compress(range(len(mine)), mine))
         self.codes = codes_of(trace.rows, hart)
         self.latest: dict[int, int] = {}        # {code: its last place among the hart's rows}
@@ -73,7 +73,7 @@ class Loop:
         self.first = self.of_hart[self.begin]
         self.size = len(stay)
         self.pairs = pairs_of(stay)
-        self.times = times_of(self.pairs) + Counter(stay[-1:])
+        self.times = code_times(self.pairs) + Counter(stay[-1:])
         self.rounds = min((self.times[at] for at in self.places), default=0)
         self.exits = self.find_exits()
         self.stores = self.find_stores()
@@ -130,15 +130,15 @@ class Loop:
     def find_stopped(self) -> list[Stopped]:
         if not self.places:
             return []
-        times = counted(self.codes[:self.begin])
+        times = counted_codes(self.codes[:self.begin])
         return sorted((Stopped(self.of_hart[i], times[at]) for at, i in self.latest.items()
                        if at not in self.places and times[at] >= OFTEN), reverse=True)
 
 
 def codes_of(rows: Rows, hart: int) -> array[int]:
     """The codes of a hart's rows."""
-    return rows.code[1:] if len(rows.last) == 1 else array("I",
-                                                           compress(rows.code, rows_of(rows, hart)))
+    return (rows.code[1:] if len(rows.last) == 1
+            else array("I", compress(rows.code, loop_rows(rows, hart))))
 
 
 def pairs_of(codes: array[int]) -> Counter[tuple[int, int]]:
@@ -153,7 +153,7 @@ def pairs_of(codes: array[int]) -> Counter[tuple[int, int]]:
                     for pair, times in found.items()})
 
 
-def times_of(pairs: Counter[tuple[int, int]]) -> Counter[int]:
+def code_times(pairs: Counter[tuple[int, int]]) -> Counter[int]:
     """How often each code was followed by another."""
     found: Counter[int] = Counter()
     for (at, _), times in pairs.items():
@@ -161,14 +161,14 @@ def times_of(pairs: Counter[tuple[int, int]]) -> Counter[int]:
     return found
 
 
-def counted(codes: Sequence[int]) -> Counter[int]:
+def counted_codes(codes: Sequence[int]) -> Counter[int]:
     found: Counter[int] = Counter()
     for begin in range(0, len(codes), AT_ONCE):
         found.update(codes[begin:begin + AT_ONCE])
     return found
 
 
-def rows_of(rows: Rows, hart: int) -> bytes:
+def loop_rows(rows: Rows, hart: int) -> bytes:
     """Of each row whether it is a hart's, as a byte."""
     return b"\0" + rows.hart.tobytes().translate(bytes(at == hart for at in range(256)))[1:]
 

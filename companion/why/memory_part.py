@@ -4,8 +4,8 @@ from __future__ import annotations
 
 from typing import Any
 
-from ..call.page import Part
-from ..memory.answer import Answer
+from ..call.page import PagePart
+from ..memory.answer import MemoryAnswer
 from ..memory.findings import UNMAPPED
 from ..memory.memory import LARGEST_MEMORY
 from ..memory.run import run_of
@@ -22,8 +22,8 @@ class MemoryErrors:
     def __init__(self, facts: Analysis) -> None:
         self.answer = None
         if not facts.asked and facts.log.memory <= LARGEST_MEMORY:
-            self.answer = Answer(run_of(facts.log, facts.elf.name, facts.named), facts.places,
-                                 [], [])
+            self.answer = MemoryAnswer(run_of(facts.log, facts.elf.name, facts.named),
+                                       facts.places, [], [])
             # The fault itself is told already.
             self.answer.findings = [each for each in self.answer.findings if each.kind != UNMAPPED]
 
@@ -43,9 +43,9 @@ class MemoryErrors:
         found = self.answer.findings[0]
         return f"{found.kind}: {found.text}, in {self.answer.chain(found.when.pcs)}"
 
-    def parts(self) -> list[Part]:
+    def parts(self) -> list[PagePart]:
         lines = self.lines()
-        return [Part(HEAD, lines)] if lines else []
+        return [PagePart(HEAD, lines)] if lines else []
 
     def entries(self) -> list[dict[str, Any]]:
         return ([self.answer.finding_of(each) for each in self.answer.findings[:LONGEST]]

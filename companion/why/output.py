@@ -21,7 +21,7 @@ from ..recording.instruction import A0
 from ..recording.log import WRITE_CALL, Log, SystemCall
 from ..recording.memory import quoted
 from ..recording.opened import Opened, opened
-from ..recording.passed import Passed
+from ..recording.passed import PassedRows
 from ..recording.places import CALLED_FROM, Places
 from ..recording.stacks import Frame, Stacks, call_places
 
@@ -55,11 +55,11 @@ class Write(NamedTuple):
     top: Frame
 
 
-class Reader:
+class OutputReader:
     """Follows the rows of `joint`: the words that are written, and a0."""
 
     def __init__(self, log: Log, elf: Elf, stacks: Stacks, numbers: dict[SystemCall, int],
-                 passed: Optional[Passed]) -> None:
+                 passed: Optional[PassedRows]) -> None:
         """`numbers` are those of the writes of the whole log; `passed` has taken the rows before
         those that come, if there are any."""
         ranges = few_ranges(((call.address, call.address + call.size)
@@ -122,7 +122,7 @@ class Reader:
                 self.a0[name] = int(text[end + len(SET):end + len(SET) + 8], 16)
 
 
-def place_of(places: Places, write: Write) -> str:
+def output_place(places: Places, write: Write) -> str:
     """The place of a write, and the calls over it, innermost first. Those of a library, whose
     source isn't here, are passed if others have theirs."""
     pcs = [write.call.pc, *call_places(write.top, MOST_LIBRARY_CALLS)]
@@ -150,9 +150,9 @@ def writes_of(log: Log, elf: Elf, stacks: Stacks, numbers: dict[SystemCall, int]
     """The writes among about so many of the last rows of a log. `numbers` are those of the whole
     log's."""
     first = log.rows() - most if log.rows() > 2 * most else 0
-    passed = Passed(log, elf.name)
+    passed = PassedRows(log, elf.name)
     texts = after(first, chunks(log.name, elf.name, log=log), passed.take)
-    return Reader(log, elf, stacks, numbers, passed if first else None).writes(texts)
+    return OutputReader(log, elf, stacks, numbers, passed if first else None).writes(texts)
 
 
 class Found(NamedTuple):
@@ -180,7 +180,7 @@ def find_text(writes: Iterable[Write], text: str) -> Found:
     return found
 
 
-def text_in(asked: Opened, text: str, most: int = MOST_ROWS) -> Found:
+def found_text(asked: Opened, text: str, most: int = MOST_ROWS) -> Found:
     """The same by the rows of a log."""
     numbers = numbered(asked.source.whole())
     log = asked.source.end(most)
@@ -196,7 +196,7 @@ def text_in(asked: Opened, text: str, most: int = MOST_ROWS) -> Found:
 def said_of(places: Places, write: Write) -> str:
     stream = STREAMS.get(write.stream, f"stream {write.stream}")
     return (f"{write.number:>3}. {counted(len(write.data), 'byte')} to {stream}, "
-            f"in {place_of(places, write)}\n"
+            f"in {output_place(places, write)}\n"
             f"     {quoted(write.data)}\n     {write.row}\n")
 
 

@@ -12,7 +12,7 @@ from ..recording.answers import LONGEST, place_of, put_answer
 from ..recording.elf import Symbol
 from ..recording.log import At
 from ..recording.opened import opened
-from ..recording.races import FENCED, ORDERED, TOO_MANY, AccessPair, Group, Races, RacingAccess
+from ..recording.races import FENCED, ORDERED, TOO_MANY, AccessPair, RaceGroup, Races, RacingAccess
 from ..recording.recent import FIRST_ROWS, LogFile
 from ..recording.story import STORY_HEAD, Teller, asked_story
 from ..recording.trace import Trace, read_trace
@@ -94,7 +94,7 @@ class Judged:
         return (self.chain.get(self.rows.row_of(access.hart, access.count), FAR) if self.rows
                 else FAR)
 
-    def rank(self, group: Group) -> int:
+    def rank(self, group: RaceGroup) -> int:
         if self.costs[group.number] is not None:
             return ON_CHAIN
         if group.word in self.words:
@@ -102,12 +102,12 @@ class Judged:
         functions = {self.races.places.function(access.pc) for access in group.first[0]}
         return IN_FAULT if self.fault_function in functions else OTHER
 
-    def key(self, group: Group) -> tuple[int, ...]:
+    def key(self, group: RaceGroup) -> tuple[int, ...]:
         cost = self.costs[group.number]
         return (KINDS.index(group.kind), self.rank(group), 0 if cost is None else cost,
                 self.words.get(group.word, 0), -group.pairs, group.number)
 
-    def pair(self, group: Group) -> AccessPair:
+    def pair(self, group: RaceGroup) -> AccessPair:
         """The pair that tells most of a group: of those that are kept the one nearest to the fault
         on its chain."""
         if not self.chain:
@@ -119,24 +119,24 @@ class Judged:
         """Whether a group is left that no fences order."""
         return any(not group.kind for group in self.groups)
 
-    def families(self) -> list[list[Group]]:
-        found: dict[tuple[str, Symbol | int, str, str], list[Group]] = {}
+    def families(self) -> list[list[RaceGroup]]:
+        found: dict[tuple[str, Symbol | int, str, str], list[RaceGroup]] = {}
         for group in self.groups:
             holder = self.races.named.object_at(group.word) or group.word
             found.setdefault((group.kind, holder, group.places[0], group.places[1]),
                              []).append(group)
         return list(found.values())
 
-    def reason(self, group: Group) -> str:
+    def reason(self, group: RaceGroup) -> str:
         return ", ".join(word for word in (RANK_WORDS[self.rank(group)], group.kind) if word)
 
 
-def family_lines(races: Races, family: list[Group], place: int, judged: Judged,
+def family_lines(races: Races, family: list[RaceGroup], place: int, judged: Judged,
                  beside: Beside) -> list[str]:
     """A family with a pair of its first group, and what is told beside the later access."""
     reason = judged.reason(family[0])
-    said = [f"{place:2}. {counted(pairs_of(family), 'pair')} on {family_word(races, family)}"
-            f"{f'   ({reason})' if reason else ''}"]
+    said = [f"{place:2}. {counted(race_pairs(family), 'pair')} on "
+            f"{family_word(races, family)}{f'   ({reason})' if reason else ''}"]
     for access in judged.pair(family[0]):
         source = races.places.source(access.pc)
         said.append(f"      hart {access.hart} {access.verb()} in {races.places.where(access.pc)}"
@@ -145,11 +145,11 @@ def family_lines(races: Races, family: list[Group], place: int, judged: Judged,
     return said + ["        " + line for line in beside(access)]
 
 
-def pairs_of(family: list[Group]) -> int:
+def race_pairs(family: list[RaceGroup]) -> int:
     return sum(group.pairs for group in family)
 
 
-def family_word(races: Races, family: list[Group]) -> str:
+def family_word(races: Races, family: list[RaceGroup]) -> str:
     """NAME+OFFSET (ADDRESS) of the first word, and how many more there are."""
     word = family[0].word
     name = races.members.name(word)
@@ -157,14 +157,14 @@ def family_word(races: Races, family: list[Group]) -> str:
     return said + (f" and {counted(len(family) - 1, 'more word')}" if len(family) > 1 else "")
 
 
-def brief_line(races: Races, family: list[Group]) -> str:
+def brief_line(races: Races, family: list[RaceGroup]) -> str:
     one, other = family[0].places
-    return (f"    {number(pairs_of(family)):>7}  {family_word(races, family):<28} {one}  "
+    return (f"    {number(race_pairs(family)):>7}  {family_word(races, family):<28} {one}  "
             f"and  {other}")
 
 
-def report(races: Races, judged: Judged, more: bool, beside: Beside) -> list[str]:
-    families: dict[str, list[list[Group]]] = {kind: [] for kind in KINDS}
+def race_report(races: Races, judged: Judged, more: bool, beside: Beside) -> list[str]:
+    families: dict[str, list[list[RaceGroup]]] = {kind: [] for kind in KINDS}
     for family in judged.families():
         families[family[0].kind].append(family)
     total = sum(map(len, families.values()))
@@ -173,7 +173,7 @@ def report(races: Races, judged: Judged, more: bool, beside: Beside) -> list[str
     for kind, found in families.items():
         told = found if more else found[:BRIEF_TOLD if kind else GROUPS_TOLD]
         if kind and found:
-            lines.append(f"{HEADS[kind]} ({counted(sum(map(pairs_of, found)), 'pair')})")
+            lines.append(f"{HEADS[kind]} ({counted(sum(map(race_pairs, found)), 'pair')})")
         elif total and not kind and not found:
             lines.append("  none but those below")
         for place, family in enumerate(told, 1):
@@ -198,9 +198,10 @@ def judge(source: LogFile, elf_name: str, races: Races, ignored: Ignored) -> Jud
         return Judged(races, trace, History(trace, [fault.row]) if fault else None, ignored)
 
 
-def family_answer(races: Races, judged: Judged, family: list[Group]) -> dict[str, Any]:
+def family_answer(races: Races, judged: Judged, family: list[RaceGroup]) -> dict[str, Any]:
     one, other = judged.pair(family[0])
-    return {"pairs": pairs_of(family), "words": [f"{group.word:08x}" for group in family[:LONGEST]],
+    return {"pairs": race_pairs(family),
+            "words": [f"{group.word:08x}" for group in family[:LONGEST]],
             "name": family_word(races, family), "kind": family[0].kind,
             "judged": judged.reason(family[0]), "one": access_answer(races, one),
             "other": access_answer(races, other)}
@@ -232,5 +233,6 @@ def main(words: list[str]) -> int:
             def beside(access: RacingAccess) -> list[str]:
                 return found.ready(access.hart, access.count)
             told = [STORY_HEAD] + ["  " + line for line in teller.story(story)] if story else []
-            streams.put("\n".join(told + report(races, judged, "--more" in given, beside)) + "\n")
+            streams.put("\n".join(told + race_report(races, judged, "--more" in given, beside))
+                        + "\n")
     return FOUND if "--fail" in given and judged.is_finding else 0

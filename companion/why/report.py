@@ -1,7 +1,7 @@
 """The text of `why`."""
 from __future__ import annotations
 
-from ..call.page import Part
+from ..call.page import PagePart
 from ..call.text import as_text, counted, number, short
 from ..recording.instruction import NAMES
 from ..recording.places import CALLED_FROM
@@ -32,32 +32,32 @@ SUSPECTS = ("likeliest first (a load and the store that it got; "
             "what a call did to the memory; a branch)")
 
 
-def report(facts: Analysis, more: bool = False) -> list[Part]:
-    parts = [Part(heading(facts), head_lines(facts))]
+def report(facts: Analysis, more: bool = False) -> list[PagePart]:
+    parts = [PagePart(heading(facts), head_lines(facts))]
     if facts.loops:
-        parts.append(Part("HANG", hang_lines(facts, more)))
-    parts.append(Part("CALLS", call_lines(facts)))
+        parts.append(PagePart("HANG", hang_lines(facts, more)))
+    parts.append(PagePart("CALLS", call_lines(facts)))
     if not facts.asked and not facts.output:
-        parts.append(Part("REGISTERS", register_lines(facts)))
-    parts += [Part("LAST ROWS", row_lines(facts)),
-              Part(suspects_head(facts),
-                   suspect_lines(facts, MORE_SUSPECTS if more else FIRST_SUSPECTS)),
+        parts.append(PagePart("REGISTERS", register_lines(facts)))
+    parts += [PagePart("LAST ROWS", row_lines(facts)),
+              PagePart(suspects_head(facts),
+                       suspect_lines(facts, MORE_SUSPECTS if more else FIRST_SUSPECTS)),
               value_part(facts, MORE_LINES if more else LINES),
-              Part(f"FROM BEFORE: loads behind it whose value {facts.no_row} gave",
-                   origin_lines(facts, MORE_ORIGINS if more else ORIGINS))]
+              PagePart(f"FROM BEFORE: loads behind it whose value {facts.no_row} gave",
+                       origin_lines(facts, MORE_ORIGINS if more else ORIGINS))]
     if facts.log.harts > 1:
         parts.append(race_part(facts))
-    return parts + [Part("", last_lines(facts))]
+    return parts + [PagePart("", last_lines(facts))]
 
 
-def brief(facts: Analysis) -> list[Part]:
+def brief(facts: Analysis) -> list[PagePart]:
     """The end, and the first suspects: what each did and from where."""
     suspects = [line for place, item in enumerate(facts.shown[:BRIEF_SUSPECTS], 1)
                 for line in guilty(facts, place, item)]
-    return [Part(heading(facts), head_lines(facts)),
-            *[Part("HANG", hang_lines(facts, False))] * bool(facts.loops),
-            Part(suspects_head(facts), suspects or no_suspect(facts)),
-            Part("", unread(facts) + facts.notes + facts.places.trouble())]
+    return [PagePart(heading(facts), head_lines(facts)),
+            *[PagePart("HANG", hang_lines(facts, False))] * bool(facts.loops),
+            PagePart(suspects_head(facts), suspects or no_suspect(facts)),
+            PagePart("", unread(facts) + facts.notes + facts.places.trouble())]
 
 
 def suspects_head(facts: Analysis) -> str:
@@ -206,7 +206,7 @@ def distance(item: Suspect) -> str:
     return f"behind an address or a branch (at a cost of {item.cost})"
 
 
-def value_part(facts: Analysis, most: int) -> Part:
+def value_part(facts: Analysis, most: int) -> PagePart:
     history = facts.history
     said = []
     for line in facts.lines[:most]:
@@ -220,8 +220,8 @@ def value_part(facts: Analysis, most: int) -> Part:
     rows = number(len(history.cost) - len(history.decided))
     all_rows = number(facts.rows.size)
     cut = " (cut off there)" if history.cut else ""
-    return Part(f"VALUES: {rows} of {all_rows} rows stand behind it{cut}, by place, nearest first",
-                said)
+    return PagePart(f"VALUES: {rows} of {all_rows} rows stand behind it{cut}, "
+                    "by place, nearest first", said)
 
 
 def origin_lines(facts: Analysis, most: int) -> list[str]:
@@ -231,14 +231,14 @@ def origin_lines(facts: Analysis, most: int) -> list[str]:
     return (said or ["nothing: all values behind it come from constants"]) + advice(facts.log)
 
 
-def race_part(facts: Analysis) -> Part:
+def race_part(facts: Analysis) -> PagePart:
     races = facts.races
     left = len(facts.unordered)
     if races.over:
-        return Part("RACES", [f"more than {MOST_RACES} races: not listed"])
+        return PagePart("RACES", [f"more than {MOST_RACES} races: not listed"])
     fenced = f", of which fences order {number(races.total - left)}" if left < races.total else ""
-    return Part("RACES", [f"{counted(races.total, 'pair')}{fenced}; `zelkuma race` groups them"
-                          if races.total else "none"])
+    return PagePart("RACES", [f"{counted(races.total, 'pair')}{fenced}; `zelkuma race` groups them"
+                              if races.total else "none"])
 
 
 def last_lines(facts: Analysis) -> list[str]:

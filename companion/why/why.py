@@ -9,7 +9,7 @@ from ..call.errors import REFUSED, CompanionError
 from ..call.kinds import PAGE
 from ..call.help import Help
 from ..call.options import read_words
-from ..call.page import Part, page
+from ..call.page import PagePart, page
 from ..call.saving import target
 from ..call.text import number
 from ..recording.answers import put_answer
@@ -19,7 +19,7 @@ from .analysis import Analysis, analysed, analysis_of
 from .answer import why_answer
 from .facts import Byte, asked_byte, is_byte
 from .memory_part import MemoryErrors
-from .output import text_in
+from .output import found_text
 from .report import brief, report
 
 HELP = Help(
@@ -46,13 +46,13 @@ def asked_output(asked: Opened, text: str) -> tuple[Byte, str]:
         raise CompanionError("--output names no text", REFUSED)
     if is_byte(text):
         return asked_byte(text), ""
-    found = text_in(asked, text)
+    found = found_text(asked, text)
     times = (f"The text was written {number(found.times)} times: this is the last."
              if found.times > 1 else "")
     return Byte(found.write, found.place), times
 
 
-def parts_of(analysis: Analysis, errors: MemoryErrors, given: Mapping[str, str]) -> list[Part]:
+def parts_of(analysis: Analysis, errors: MemoryErrors, given: Mapping[str, str]) -> list[PagePart]:
     """The report, with memory errors behind the fault."""
     head, *others = brief(analysis) if "--brief" in given else report(analysis, "--more" in given)
     return [head, *errors.parts(), *others]
@@ -77,7 +77,7 @@ def main(words: list[str]) -> int:
         analysis.notes += [note] * bool(note)
         story = asked_story(given, analysis.log, elf)
         teller = Teller(analysis.named, analysis.places)
-        parts = [Part(STORY_HEAD, teller.story(story))] if story else []
+        parts = [PagePart(STORY_HEAD, teller.story(story))] if story else []
         errors = MemoryErrors(analysis)
         parts += parts_of(analysis, errors, given)
         if "--json" in given:

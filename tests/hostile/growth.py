@@ -42,7 +42,7 @@ def counted(folder):
 
         sys.setprofile(told)
         try:
-            status = forked.call.run(words)
+            status = forked.call.run_word(words)
         finally:
             sys.setprofile(None)
         write(f"{folder}/count", str(count).encode())

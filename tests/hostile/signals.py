@@ -57,7 +57,7 @@ TICKS = os.sysconf("SC_CLK_TCK")
 class Word(NamedTuple):
     """What is called, and {target: its kind}."""
     words: List[str]
-    targets: Dict[str, kinds.Kind]
+    targets: Dict[str, kinds.FileKind]
 
 
 def saves(words, *targets):

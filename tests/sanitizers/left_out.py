@@ -23,7 +23,7 @@ sys.path[:0] = [os.path.join(HERE, "..", *part)
                 for part in (("..",), ("companions", "lib"), ("companions", "memory"))]
 from companion.memory import (                      # noqa: E402
     calls, facts, heap, judge, leaks, parts, pointers, program, run, stacks, sums, undefined, value)
-from companion.memory.answer import Answer          # noqa: E402
+from companion.memory.answer import MemoryAnswer          # noqa: E402
 from companion.memory.state import GOOD             # noqa: E402
 from companion.recording import types               # noqa: E402
 from companion.recording.chunks import chunks       # noqa: E402
@@ -46,20 +46,22 @@ CHECKS: Dict[str, Patches] = {
     "global objects": ((parts.Parts, "global_thing", NONE),),
     "members": ((types.Types, "array_at", NONE),),
     "members by an index": ((parts.Parts, "missed_part", NONE),),
-    "types of variables in registers": ((program.Program, "pointers_in_registers", lambda *_: {}),),
+    "types of variables in registers": ((program.CheckedProgram,
+                                         "pointers_in_registers", lambda *_: {}),),
     "variables of frames": ((parts.Parts, "place", NONE),),
     "memory asked for on a stack": ((sums, "size_asked", NONE),),
     "ended blocks": ((parts.Parts, "scope_of", NONE),),
-    "ended frames, by pointers": ((stacks.Stacks, "keep", NONE),),
+    "ended frames, by pointers": ((stacks.CheckedStacks, "keep", NONE),),
     "ended frames, by bytes": ((stacks, "ENDED", GOOD),),
-    "depth": ((stacks.Stacks, "met", lambda *_: ""),),
-    "saved registers": ((facts.Flow, "find_slots", NONE),),
-    "return addresses": ((stacks.Stacks, "strayed", lambda _, hart, *__: hart.returns.clear()),),
+    "depth": ((stacks.CheckedStacks, "met", lambda *_: ""),),
+    "saved registers": ((facts.FunctionFlow, "find_slots", NONE),),
+    "return addresses": ((stacks.CheckedStacks, "strayed",
+                          lambda _, hart, *__: hart.returns.clear()),),
     "types of pointers": ((pointers.PointerWords, "stored", NONE),),
     "bits that nobody wrote": ((undefined.UndefinedBits, "tell", NONE),),
     "overlap": ((judge.Judge, "tell_overlap", NONE),),
     "addresses outside of memory": ((judge.Judge, "tell_unmapped", NONE),),
-    "read and write calls": ((calls.Calls, "clip", NONE),),
+    "read and write calls": ((calls.AllocatorCalls, "clip", NONE),),
     "leaks": ((leaks, "leaks_of", lambda *_: []),)}
 RULES: Dict[str, Patches] = {
     "words that a library reads past an end": ((judge.Judge, "is_by_words", NO),),
@@ -73,13 +75,13 @@ RULES: Dict[str, Patches] = {
     "products may hide a place": ((facts, "mixed", NONE), (facts, "multiplied", NONE)),
     "low numbers are no addresses": ((value, "LOWEST_ADDRESS", 0),),
     "clones have other parameters": ((program, "CLONE", NEVER),),
-    "blocks of optimized code aren't known": ((program.Program, "is_plain", YES),),
+    "blocks of optimized code aren't known": ((program.CheckedProgram, "is_plain", YES),),
     "a library looks at bytes that don't count": ((undefined, "LOOKS", NEVER),),
     "bits are followed exactly": ((undefined, "result_bits", lambda *_: (1 << 32) - 1),),
     "marks in pointers": ((pointers, "LEAST_ADDRESS", 1),),
     "mem* move bytes of any type": ((pointers, "COPIES", NEVER),)}
 WHOLE = "nothing"
-programs: Dict[str, program.Program] = {}
+programs: Dict[str, program.CheckedProgram] = {}
 
 
 class Tried(NamedTuple):
@@ -132,20 +134,21 @@ class Log:
     def __init__(self, tried: Tried, places: Places) -> None:
         self.tried, self.places = tried, places
         self.log = load_log(tried.log)
-        self.program = programs.setdefault(tried.elf, program.Program(places.elf))
+        self.program = programs.setdefault(tried.elf, program.CheckedProgram(places.elf))
         self.texts = list(chunks(tried.log, tried.elf, log=self.log))
         names = {each.name for each in places.elf.functions}
-        self.pool = tries.POOL[1::2] if tried.test.elf and names.issuperset(tries.POOL[1::2]) else ()
+        self.pool = (tries.POOL[1::2] if tried.test.elf and names.issuperset(tries.POOL[1::2])
+                     else ())
 
     def end(self) -> str:
         """How it is told, with what is left out now."""
         tried = self.tried
         hooks = run.hooks_of(self.program, self.pool[:1], self.pool[1:])
-        found = run.Run(self.log, self.program, hooks)
+        found = run.CheckedRun(self.log, self.program, hooks)
         found.along(self.texts)
         asks = tried.test.kind == tries.LEAK
         lost = leaks.leaks_of(found.heap, found.harts, tried.log, tried.elf) if asks else []
-        answer = Answer(found, self.places, [], lost).answer()
+        answer = MemoryAnswer(found, self.places, [], lost).answer()
         end: str = tries.judged(tried.test, tried.lines, answer)["memory"]
         return end
 

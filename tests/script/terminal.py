@@ -12,7 +12,8 @@ import os
 import pty
 import sys
 
-SIGPIPE, SIGXFSZ = 13, 25       # which python ignores; `signal` and `subprocess` take as long to load as the rest
+SIGPIPE = 13  # which python ignores
+SIGXFSZ = 25  # `signal` and `subprocess` take as long to load as the rest
 
 
 def shown_at(terminal):
@@ -29,7 +30,8 @@ def shown_at(terminal):
 
 def run_with_err(file, words):
     terminal, theirs = pty.openpty()
-    process = os.posix_spawnp(words[0], words, dict(os.environ, TERM="dumb"), setsigdef=[SIGPIPE, SIGXFSZ],
+    process = os.posix_spawnp(words[0], words, dict(os.environ, TERM="dumb"),
+                              setsigdef=[SIGPIPE, SIGXFSZ],
                               file_actions=[(os.POSIX_SPAWN_DUP2, theirs, 2)])
     os.close(theirs)
     shown = b"".join(shown_at(terminal))

@@ -23,7 +23,7 @@ fi
 what="types of tools and tests, by mypy"
 if type -P mypy >/dev/null; then
     runs 0 mypy --python-version 3.8 --cache-dir "$work/mypy" tools/*.py tools/help/make.py
-    MYPYPATH=bench:tests/companions/lib:tests/companions/why:tests/companions/memory:tests/hostile:tests/crashes:tests/sanitizers:tools:. runs 0 mypy --python-version 3.8 \
+    MYPYPATH=bench:tests/companions/lib:tests/companions/memory:tests/companions/why:tests/companions/memory:tests/hostile:tests/crashes:tests/sanitizers:tools:. runs 0 mypy --python-version 3.8 \
         --cache-dir "$work/mypy" --explicit-package-bases --check-untyped-defs --no-strict-optional --disable-error-code var-annotated \
         --disable-error-code misc --disable-error-code assignment {bench,tests,tests/*,tests/companions/*}/*.py
     runs 0 mypy --strict --python-version 3.8 --cache-dir "$work/mypy_oracle" --follow-imports=silent -p tests.oracle
@@ -31,11 +31,11 @@ else
     skips "types of tools and tests: mypy isn't here"
 fi
 
-# Imports follow what adds a folder to the path, and a slice of sums has spaces.
+# The configuration stands in pyproject.toml, from which flake8 doesn't read by itself.
 what="the style of what is in Python, by flake8"
 if type -P flake8 >/dev/null; then
-    runs 0 flake8 --isolated --max-line-length 160 --extend-ignore E127,E128,E203,E402 --per-file-ignores companion/__init__.py:F401,F811 \
-        companion python tools tests bench examples
+    sed -n '/^\[tool\.flake8]$/,/^$/{s/^\[tool\./[/;s/"//g;p}' pyproject.toml >"$work/flake8"
+    runs 0 flake8 --config "$work/flake8" companion python tools tests bench examples
 else
     skips "the style: flake8 isn't here"
 fi

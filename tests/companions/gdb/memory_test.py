@@ -10,7 +10,7 @@ from recordings import (A0, A1, A2, A7, DATA, ECALL, EXIT, FIRST, SEGV, T0, T1, 
                         branch_unless_equal, load, lui, pc_of, store)
 from reference import Reference, agrees
 
-from companion.gdb.memory import Memory
+from companion.gdb.memory import SessionMemory
 from companion.gdb.session import begin_session
 from companion.recording.elf import Elf
 from companion.recording.recent import open_log
@@ -48,7 +48,7 @@ def case_03_untouched_memory(recordings):
     with contextlib.closing(open_log(log)) as opened:
         read = opened.whole()
         with contextlib.closing(begin_session(read, elf)) as session:
-            memory = Memory(read, Elf(elf), session)
+            memory = SessionMemory(read, Elf(elf), session)
             with unittest.mock.patch.object(Elf, "bytes_at", autospec=True,
                                             side_effect=Elf.bytes_at) as looked_up:
                 assert b"".join(memory.read(at, 4096)

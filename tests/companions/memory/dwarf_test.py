@@ -10,7 +10,7 @@ import common
 
 from companion.memory import facts
 from companion.memory.parts import Parts
-from companion.memory.program import Program
+from companion.memory.program import CheckedProgram
 from companion.recording import dwarf
 from companion.recording.dwarf import (ARRAY, BASE, BYTE_SIZE, MEMBER, OFFSET, POINTER, STRUCT,
                                        SUBRANGE, TYPE, UPPER, Dwarf, Entry, Unit)
@@ -45,7 +45,7 @@ class DwarfTest(case.Case):
         asked = 0
         for elf in ([self.elf(name) for name in NAMES]
                     + [each.elf for each in list(common.crashes().values())[:40:3]]):
-            wanted = list(questions(Program(Elf(elf))))
+            wanted = list(questions(CheckedProgram(Elf(elf))))
             words = [word for expression, _ in wanted for word in ("-ex", f"print/d {expression}")]
             said = subprocess.run([GDB, "-batch", "-nx", *words, elf], stdout=subprocess.PIPE,
                                   stderr=subprocess.STDOUT).stdout.decode()
@@ -59,7 +59,7 @@ class DwarfTest(case.Case):
             self.skipTest(f"{GDB} isn't installed")
         asked = 0
         for elf in [each.elf for each in list(common.crashes().values())[:40:6]]:
-            program = Program(Elf(elf))
+            program = CheckedProgram(Elf(elf))
             for first, entry in program.entries.items():
                 said = subprocess.run([GDB, "-batch", "-nx", "-ex", f"info scope *{first:#x}", elf],
                                       stdout=subprocess.PIPE,
@@ -87,7 +87,7 @@ class DwarfTest(case.Case):
             found.parts = {".debug_loclists": bytes(draw.choice((0, 4, 6, 7, 8, 9, 1, 0x5a, 255))
                                                     for _ in range(size))}
             self.assertLessEqual(len(list(locations(found, entry))), 1000)
-        program = Program(Elf(self.elf("heap")))
+        program = CheckedProgram(Elf(self.elf("heap")))
         first = next(iter(program.entries))
         program.left_locations = 3
         for each in program.entries.values():
@@ -109,12 +109,12 @@ class DwarfTest(case.Case):
             forged = bytearray(data)
             for _ in range(20):
                 forged[draw.choice(parts) + draw.randrange(400)] = draw.randrange(256)
-            program = Program(Elf(common.written(common.path("forged.elf"), bytes(forged))))
+            program = CheckedProgram(Elf(common.written(common.path("forged.elf"), bytes(forged))))
             for each in program.sized:
                 kind = program.objects.get(each.address)
                 self.assertLessEqual(len(program.types.pointers_in(kind)), 1 << 16)
                 program.types.structures_at(kind, each.address, each.address + 8, "")
-            parts_of = Parts(facts.Facts(program))
+            parts_of = Parts(facts.RegisterFacts(program))
             for symbol in program.elf.functions:
                 program.parameters(symbol.address)
                 parts_of.place(symbol.address, -16)
@@ -163,7 +163,7 @@ class DwarfTest(case.Case):
 
     def test_a_file_is_read_once(self):
         elf = Elf(self.elf("heap"))
-        self.assertIs(Members(elf).types.dwarf, Program(elf).dwarf)
+        self.assertIs(Members(elf).types.dwarf, CheckedProgram(elf).dwarf)
 
     def test_an_analysis_that_takes_too_long_is_left(self):
         """Then nothing is known of the function."""
@@ -171,4 +171,5 @@ class DwarfTest(case.Case):
         main = next(symbol.address for symbol in elf.functions if symbol.name == "main")
         for steps, known in ((200, True), (0, False)):
             with unittest.mock.patch.object(facts, "STEPS_EACH", steps):
-                self.assertEqual(facts.Facts(Program(elf)).at(main, elf.word(main)).known, known)
+                self.assertEqual(
+                    facts.RegisterFacts(CheckedProgram(elf)).at(main, elf.word(main)).known, known)

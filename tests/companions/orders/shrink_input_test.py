@@ -16,7 +16,7 @@ import common
 import inputs
 
 from companion.orders import shrink
-from companion.orders.input_ends import Fault, InputEnds, Loop
+from companion.orders.input_ends import FaultEnd, InputEnds, LoopEnd
 from companion.orders.input_search import InputSearch, groups_of, without_groups
 from companion.orders.same_end import Faulted
 from companion.orders.shrinking_input import FirstSuspects
@@ -208,11 +208,11 @@ class EndsTest(case.Case):
                       FirstSuspects("f a.c:1", "g a.c:9", False).lines()[0])
 
     def test_a_loop_is_like_one_around_it(self):
-        wide = Loop(frozenset((b"1", b"2", b"3")))
-        narrow = Loop(frozenset((b"1", b"3")))
+        wide = LoopEnd(frozenset((b"1", b"2", b"3")))
+        narrow = LoopEnd(frozenset((b"1", b"3")))
         self.assertTrue(wide.is_like(narrow) and wide.is_like(wide))
         self.assertFalse(narrow.is_like(wide)
-                         or wide.is_like(Fault(Faulted("LoadOutside", 4, ("f",), False), b"1")))
+                         or wide.is_like(FaultEnd(Faulted("LoadOutside", 4, ("f",), False), b"1")))
 
     def test_groups(self):
         self.assertEqual(groups_of(b"a(b[c])d(e"), [(1, 6), (3, 5)])

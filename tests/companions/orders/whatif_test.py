@@ -84,7 +84,7 @@ class WhatIfTest(case.Case):
             old = whatif.Turns(whole, elf, common.content(book))
             with whatif.Scratch() as folder, whatif.Quick(folder) as quick:
                 options = {**whatif.options_of(found, whole, question.times, ""), "--limit": "3000"}
-                made, name = whatif.record(quick, data, options, book)
+                made, name = whatif.record_changed(quick, data, options, book)
                 new = whatif.Turns(made, name, common.content(os.path.join(folder, "book")))
                 code = made.ends[0].value if made.ends[0].reason != "limit" else None
                 return code, whatif.compare(old, new, at).is_sound
@@ -121,7 +121,7 @@ class WhatIfTest(case.Case):
                             refused += 1
                             continue
                         data = whatif.patched(found.elf, question.done.code, code.words)
-                        made, its = whatif.record(
+                        made, its = whatif.record_changed(
                             quick, data, whatif.options_of(found, whole, question.times, ""), book)
                         new = whatif.Turns(made, its, common.content(os.path.join(folder, "book")))
                         self.assertTrue(whatif.compare(old, new, at).is_sound)

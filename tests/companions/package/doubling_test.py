@@ -112,7 +112,7 @@ def seconds(words):
     """The processor time of a companion and of the program that it asks."""
     with open(os.devnull, "w", encoding="utf-8") as nothing, contextlib.redirect_stdout(nothing):
         before = os.times()
-        status = call.run(list(words))
+        status = call.run_word(list(words))
         after = os.times()
     return status, sum(after[:4]) - sum(before[:4])
 

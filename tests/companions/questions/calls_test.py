@@ -103,13 +103,14 @@ class CallsTest(case.Case):
         said = []
         for kept in (1 << 30, 1 << 15, 1 << 10):
             with asked_of(log, elf, {}) as asked:
-                found = calls.Calls(asked, calls.function_of(asked.named, "put_text"), 1000, None)
+                found = calls.FoundCalls(asked, calls.function_of(asked.named, "put_text"),
+                                         1000, None)
                 found.window.kept = kept
                 rows = b"".join(asked.chunks())[1:].split(b"\n")
                 read((b"\n" + b"\n".join(rows[at:at + 10]) for at in range(0, len(rows), 10)),
                      found)
                 found.finish()
-                said.append(calls.report(found))
+                said.append(calls.calls_report(found))
         self.assertEqual(said[1:], said[:1] * 2)
 
     def test_a_text_that_changes_is_the_one_of_then(self):

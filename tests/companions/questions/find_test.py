@@ -65,10 +65,10 @@ class FindTest(case.Case):
         find.MOST_ROWS = 100
         self.addCleanup(setattr, find, "MOST_ROWS", kept)
         with asked_of(log, elf, {}) as asked:
-            found = find.Found(asked, 1)
+            found = find.FoundRows(asked, 1)
             rows = b"".join(asked.chunks())[1:].split(b"\n")
             read((b"\n" + row for row in rows), found)
-            lines = find.report(found)
+            lines = find.rows_report(found)
         some = sum(row.count(b"=00000001") for row in rows)
         self.assertLess(100, found.total)
         self.assertLessEqual(found.total, some)

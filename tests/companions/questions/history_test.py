@@ -14,7 +14,7 @@ import common
 
 from companion.call.errors import CompanionError
 from companion.questions import debugger, history, variables
-from companion.questions.types import Leaf, bounded, leaves, value_text, words_type
+from companion.questions.types import Leaf, bounded_type, leaves, value_text, words_type
 from companion.recording.elf import Elf
 
 WIDTHS = {"sb": 1, "sh": 2}
@@ -90,7 +90,7 @@ class HistoryTest(case.Case):
     def test_a_caller_is_found_however_far_back_its_call_is(self):
         """Chunks of a few rows each, and a loop of many calls between: the frames are followed, not
         looked for."""
-        from companion.questions.history import History, report
+        from companion.questions.history import VariableHistory, stores_report
         from companion.questions.reading import asked_of, read
         from companion.questions.variables import variable_of
         log = self.record("heap", "--seed", "1")
@@ -99,11 +99,12 @@ class HistoryTest(case.Case):
         for rows in (1, 10, 1 << 20):
             with asked_of(log, elf, {}) as asked:
                 stacks = asked.stacks()
-                found = History(asked, stacks, variable_of(asked.named, "00011b60"), 100, False)
+                found = VariableHistory(asked, stacks, variable_of(asked.named, "00011b60"),
+                                        100, False)
                 lines = b"".join(asked.chunks())[1:].split(b"\n")
                 read((b"\n" + b"\n".join(lines[at:at + rows]) for at in range(0, len(lines), rows)),
                      stacks, found)
-                said.append(report(found))
+                said.append(stores_report(found))
         self.assertEqual(said[0], said[2])
         self.assertEqual(said[1], said[2])
         self.assertIn("_start", said[0][3])
@@ -304,17 +305,17 @@ class TypesTest(unittest.TestCase):
     def test_parts_outside_of_their_whole_are_bytes(self):
         many: Dict[str, Any] = {"kind": "array", "name": "", "size": 80, "count": 10,
                                 "first": 0, "of": PAIR}
-        self.assertEqual((bounded(PAIR), bounded(many)), (PAIR, many))
+        self.assertEqual((bounded_type(PAIR), bounded_type(many)), (PAIR, many))
         before: Dict[str, Any] = {"name": "a", "at": -4, "type": INT}
         behind: Dict[str, Any] = {"name": "a", "at": 7, "type": INT, "bit": 7, "bits": 2}
         wrongs: List[Dict[str, Any]] = [{**many, "count": 1 << 31}, {**many, "count": -1},
                                         {**PAIR, "size": 7}, {**PAIR, "fields": [before]},
                                         {**PAIR, "fields": [behind]}]
         for wrong in wrongs:
-            self.assertEqual(bounded(wrong), words_type(wrong["size"]), wrong)
+            self.assertEqual(bounded_type(wrong), words_type(wrong["size"]), wrong)
         inner: Dict[str, Any] = {"kind": "fields", "name": "", "size": 80,
                                  "fields": [{"name": "a", "at": 0, "type": {**many, "count": 11}}]}
-        self.assertEqual(bounded(inner)["fields"][0]["type"], words_type(80))
+        self.assertEqual(bounded_type(inner)["fields"][0]["type"], words_type(80))
 
     def test_values(self):
         self.assertEqual(self.values("int", b"\xff\xff\xff\xff", signed=True), "-1")

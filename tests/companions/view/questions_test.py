@@ -110,8 +110,10 @@ class ClickTest(Pages):
                              browser.run("document.querySelector('#calls .question').innerText"))
             if browser.run("document.querySelectorAll('#rows .line').length"):
                 browser.click_on("#rows .line")
-                self.assertRegex(text("question-head"), r"^race_settings\.c:\d+: variables before it$")
-                self.assertRegex(text("question-said"), r"^\d+ pass(es)?(; these are the last 40)?$")
+                self.assertRegex(text("question-head"),
+                                 r"^race_settings\.c:\d+: variables before it$")
+                self.assertRegex(text("question-said"),
+                                 r"^\d+ pass(es)?(; these are the last 40)?$")
             for width in (1280, 800):
                 self.opened(browser, self.page("--with-questions")[0], width=width)
                 browser.run("showHistory(asked.variables[0])")
