@@ -90,19 +90,27 @@ class Instruction:
             self.rs1 = A1
             self.rs2 = A2
         elif low in (OP_JAL, OP_JALR):
-            self.kind = JUMP
-            self.rd = rd
-            self.rs1 = rs1 if low == OP_JALR else 0
-            self.call = rd in LINKS
-            if low == OP_JAL:
-                offset = ((word >> 21 & 1023) << 1 | (word >> 20 & 1) << 11
-                          | (word >> 12 & 255) << 12)
-                self.leads = self.pc + offset - (word >> 31 << 20)
-            self.ret = low == OP_JALR and rd == 0 and rs1 in LINKS
+            self.decode_jump(low, rd, rs1)
         elif low in (OP_IMMEDIATE, OP_REGISTER, OP_LUI, OP_AUIPC):
-            self.kind = ALU
-            self.rd = rd
-            self.rs1 = rs1 if low in (OP_IMMEDIATE, OP_REGISTER) else 0
-            self.rs2 = rs2 if low == OP_REGISTER else 0
-            self.move = low == OP_IMMEDIATE and f3 == 0 and word >> 20 == 0
-            self.counts = low == OP_IMMEDIATE and f3 == 0 and rd == rs1
+            self.decode_sum(low, rd, rs1, rs2)
+
+    def decode_sum(self, low: int, rd: int, rs1: int, rs2: int) -> None:
+        is_addi = low == OP_IMMEDIATE and self.word >> 12 & 7 == 0
+        self.kind = ALU
+        self.rd = rd
+        self.rs1 = rs1 if low in (OP_IMMEDIATE, OP_REGISTER) else 0
+        self.rs2 = rs2 if low == OP_REGISTER else 0
+        self.move = is_addi and self.word >> 20 == 0
+        self.counts = is_addi and rd == rs1
+
+    def decode_jump(self, low: int, rd: int, rs1: int) -> None:
+        word = self.word
+        self.kind = JUMP
+        self.rd = rd
+        self.rs1 = rs1 if low == OP_JALR else 0
+        self.call = rd in LINKS
+        if low == OP_JAL:
+            offset = ((word >> 21 & 1023) << 1 | (word >> 20 & 1) << 11
+                      | (word >> 12 & 255) << 12)
+            self.leads = self.pc + offset - (word >> 31 << 20)
+        self.ret = low == OP_JALR and rd == 0 and rs1 in LINKS
