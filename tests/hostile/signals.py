@@ -25,7 +25,7 @@ import subprocess
 import sys
 import tempfile
 import time
-from typing import Dict, List, NamedTuple
+from typing import Dict, List, NamedTuple, Tuple
 
 import forked
 from tried import TOP, read, write
@@ -55,9 +55,10 @@ TICKS = os.sysconf("SC_CLK_TCK")
 
 
 class Word(NamedTuple):
-    """What is called, and {target: its kind}."""
+    """What is called, {target: its kind}, and the statuses of a run whose end its threads decide."""
     words: List[str]
     targets: Dict[str, kinds.FileKind]
+    ends: Tuple[int, ...] = ()
 
 
 def saves(words, *targets):
@@ -110,7 +111,7 @@ def calls(folder, new, share):
     found["record"] = saves(["record", *LARGE, *many_rows(share), HANG], new, new + ".book")
     found["record in threads"] = saves(["record", "--format", "2", "--harts", "4", "--limit",
                                         str(10000000 // share), f"{CRASHES}/hang_barrier.elf"],
-                                       new, new + ".book")
+                                       new, new + ".book")._replace(ends=(0, 11))
     found["record into a pipe"] = saves(["record", "--limit", "2000", HANG],
                                         new + ".pipe", new + ".book")
     found["convert"], found["salvage"] = (saves([word, many[0]], new)
@@ -291,7 +292,7 @@ class Sweep:
         found = call.trouble(processes)
         in_start = call.is_in_start(call.said())
         self.counts["in python's own start"] += in_start
-        if code not in (STATUSES[number], status) and not in_start:
+        if code not in (STATUSES[number], status, *call.word.ends) and not in_start:
             found.append(f"status {code}")
         self.counts["calls"] += 1
         self.counts["ended by the signal"] += code == STATUSES[number]
