@@ -24,6 +24,10 @@ SILENCE = 1.0
 LAST_S = 0.3
 
 
+class NoReader(Exception):
+    """Who read the output has left, as `head` does: nothing is to be told."""
+
+
 def prepare() -> None:
     """Makes the streams usable. One that is closed is put on a file that takes nothing, so that no
     other file gets its number, and what is written to it fails as on a full disk. A name may hold
@@ -39,7 +43,7 @@ def prepare() -> None:
 
 
 def put(text: str) -> None:
-    """Prints text. CompanionError if the output takes no more."""
+    """Prints text. CompanionError or NoReader if the output takes no more."""
     put_bytes(text.encode(sys.stdout.encoding or "utf-8", "backslashreplace"))
 
 
@@ -53,8 +57,8 @@ def put_bytes(data: bytes) -> None:
     try:
         sys.stdout.buffer.write(data)
         sys.stdout.buffer.flush()
-    except BrokenPipeError:
-        raise
+    except BrokenPipeError as error:
+        raise NoReader from error
     except OSError as error:
         raise CompanionError(f"the output takes no more: {error.strerror or error}", UNWRITABLE)
 

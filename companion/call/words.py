@@ -70,7 +70,7 @@ def guarded(words: list[str]) -> int:
         return error.status
     except KeyboardInterrupt as stop:
         return streams.interrupted(stop)
-    except BrokenPipeError:
+    except streams.NoReader:
         return UNWRITABLE
     except MemoryError:
         streams.say("out of memory")

@@ -8,7 +8,7 @@ import time
 from collections import deque
 from multiprocessing import Pipe
 from multiprocessing.connection import Connection, wait
-from typing import Any, Generator, Iterable, NoReturn, Optional
+from typing import Any, Generator, Iterable, NoReturn, Optional, Union
 
 from ..call import streams
 from ..call.children import ProcessGroup, tie
@@ -43,7 +43,8 @@ class Worker:
         self.task = task
         self.moved = time.monotonic()
         self.began = self.used = group_seconds(self.pid)
-        self.ours.send(task)
+        with contextlib.suppress(OSError):      # one that has ended gives no answer
+            self.ours.send(task)
 
     def trouble(self) -> str:
         """Why the task is given up, or nothing: its group took too much time, or none for long."""
@@ -76,9 +77,11 @@ def serve(pipe: Connection, parent: int, signals: set[Any]) -> NoReturn:
         limit_memory()
         while True:
             pipe.send(work.answer(pipe.recv()))
-    except (EOFError, OSError, KeyboardInterrupt):
-        # There is no parent any more, or it doesn't wait for an answer
-        pass
+    except (EOFError, KeyboardInterrupt):
+        pass                                    # no answer is waited for any more
+    except OSError as error:                    # it lacks what it needs, or its parent
+        with contextlib.suppress(OSError):
+            pipe.send(error)
     finally:
         work.close()
         os._exit(0)
@@ -106,9 +109,10 @@ def times_of(process: int) -> list[int]:
 def answers(tasks: Iterable[Task], jobs: int) -> Generator[tuple[Task, Answer], None, None]:
     """The answer to each task, in the order in which they come."""
     left = deque(tasks)
-    workers = [Worker() for _ in range(jobs)]
+    workers: list[Worker] = []
     look_at = time.monotonic() + LOOK_EACH
     try:
+        workers.extend(Worker() for _ in range(jobs))
         while True:
             for worker in workers:
                 if worker.task is None and left:
@@ -131,14 +135,16 @@ def answers(tasks: Iterable[Task], jobs: int) -> Generator[tuple[Task, Answer], 
 
 
 def answer_of(worker: Worker, workers: list[Worker], why: str) -> Answer:
-    """What a worker says. One that ended, or is given up, gets a successor."""
-    try:
-        if worker.ours.poll():
-            found: Answer = worker.ours.recv()
-            worker.task = None
-            return found
-    except (EOFError, OSError):
-        why = ENDED
+    """What a worker says. One that ended, or is given up, gets a successor. OSError if it lacks
+    what it needs to begin."""
+    said: Union[Answer, OSError, None] = None
+    with contextlib.suppress(EOFError, OSError):
+        said = worker.ours.recv() if worker.ours.poll() else None
+    if isinstance(said, OSError):
+        raise said
+    if said is not None:
+        worker.task = None
+        return said
     workers[workers.index(worker)] = Worker()
     worker.end(signal.SIGKILL)
-    return Answer(UNREAD, why)
+    return Answer(UNREAD, why or ENDED)

@@ -62,6 +62,15 @@ class OutputsTest(case.Case):
             _, err = process.communicate(self.given(words), timeout=BOUND)
             self.assertEqual((process.returncode, err), (13, b""), words)
 
+    def test_a_pipe_of_a_child_is_not_the_output(self):
+        """What it ends is told."""
+        script = ("import sys; from companion.call import words\n"
+                  "def ends(_): raise BrokenPipeError(32, 'Broken pipe')\n"
+                  "words.run_word = ends; words.main(['why'])")
+        done = subprocess.run([sys.executable, "-c", script], stderr=subprocess.PIPE,
+                              cwd=common.TOP, check=False)
+        self.assertEqual((done.returncode, done.stderr), (3, b"zelkuma: a file: Broken pipe\n"))
+
     def test_err_that_takes_nothing_changes_no_status(self):
         log, elf = self.crash("race_settings")
         for output in ("2>/dev/full", "2>&-"):
@@ -79,9 +88,11 @@ class OutputsTest(case.Case):
         python itself."""
         log, elf = self.crash("race_settings")
         for words in (("why", log, elf), ("view", log, elf), ("bucket", log, elf),
-                      ("gdb", log, elf), ("names", elf, "main")):
+                      ("gdb", log, elf), ("names", elf, "main"),
+                      ("triage", log, "--elfs", elf)):
             for files in (5, 6, 7, 8, 9, 10, 12):
-                status, _, err = self.shell('ulimit -n %d; exec "$@"' % files, words)
+                status, _, err = self.shell('ulimit -n %d; exec "$@"' % files, words,
+                                            XDG_CACHE_HOME=common.path("cache"))
                 self.assertNotIn("Traceback", err, (words, files))
                 self.assertNotIn("failed inside", err, (words, files))
                 self.assertLessEqual(err.count("\n"), 1, (words, files, err))

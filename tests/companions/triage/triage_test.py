@@ -1,12 +1,15 @@
 """`triage`: a folder with equal, different, damaged, forged and foreign files; its forms; what a
 log may take."""
+import errno
 import hashlib
 import json
 import os
 import shlex
 import shutil
+import signal
 import subprocess
 import sys
+import time
 import unittest
 import xml.etree.ElementTree
 
@@ -341,7 +344,7 @@ class LimitsTest(unittest.TestCase):
 
     def test_a_program_that_says_nothing(self):
         self.script("exec sleep 600")
-        self.change(triage_pool, "PATIENCE", 1.0)
+        self.change(triage_pool, "PATIENCE", 6.0)       # the others may have to wait so long
         self.assertEqual(self.states(), [("read", ""), ("read", ""), ("unread", triage_pool.STUCK)])
 
     def test_a_program_that_is_slow_on_a_busy_machine(self):
@@ -355,6 +358,30 @@ class LimitsTest(unittest.TestCase):
     def test_a_process_that_is_ended(self):
         self.script("kill -9 $PPID; exit")
         self.assertEqual(self.states(), [("read", ""), ("read", ""), ("unread", triage_pool.ENDED)])
+
+    def test_a_process_that_is_ended_before_it_has_a_task(self):
+        self.script(":")
+        give = triage_pool.Worker.give
+
+        def late(worker, task):
+            if task == self.tasks[1]:
+                os.kill(worker.pid, signal.SIGKILL)
+                worker.ours.poll(None)          # until its group has ended, too
+            give(worker, task)
+
+        self.change(triage_pool.Worker, "give", late)
+        self.assertEqual(self.states(), [("read", ""), ("read", ""), ("unread", triage_pool.ENDED)])
+
+    def test_a_process_that_lacks_files(self):
+        """It is told once, not of each log; it can end before it has a task, or later."""
+        def fails():
+            time.sleep(wait)
+            raise OSError(errno.EMFILE, "too many")
+
+        self.change(triage_pool, "ProcessGroup", fails)
+        for wait in (0, 0.2):
+            with self.assertRaisesRegex(OSError, "too many"):
+                self.ask(1)
 
     def test_a_refusal(self):
         self.script("echo 'bugnet: replay: Stuck' >&2; exit 15")
