@@ -55,7 +55,7 @@ TICKS = os.sysconf("SC_CLK_TCK")
 
 
 class Word(NamedTuple):
-    """What is called, {target: its kind}, and the statuses of a run whose end its threads decide."""
+    """What is called, {target: its kind}, and the statuses of which threads decide one."""
     words: List[str]
     targets: Dict[str, kinds.FileKind]
     ends: Tuple[int, ...] = ()
