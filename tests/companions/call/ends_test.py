@@ -1,6 +1,5 @@
 """How a companion ends that is told to: by which status, and that no process and no folder of it
 stays."""
-import contextlib
 import os
 import pty
 import re
@@ -12,7 +11,7 @@ import time
 
 import cases
 from common import COMPANION, CRASHES, EXAMPLES, PROGRAM, TOP, companion, content
-from processes import below, is_running
+from processes import below, is_running, shown_at
 
 HAND_OVER = os.path.join(EXAMPLES, "hand_over.elf")
 # Seconds after which a call hangs: others may have the processors. What it starts sleeps longer.
@@ -367,11 +366,7 @@ def case_what_lasts_is_told_at_a_terminal(recordings):
         os.close(theirs)
         began.append((words, process, ours))
     for words, process, ours in began:
-        said = b""
-        with contextlib.suppress(OSError):      # the terminal's other end is closed
-            while True:
-                said += os.read(ours, 65536)
-        os.close(ours)
+        said = shown_at(ours)
         assert process.wait(BOUND) == 0, (words, said)
         assert words[0] == "race" or b" rows are read\x1b[K" in said, (words, said)
         assert said.endswith(b"\r\x1b[K") or words[0] == "race", (words, said)

@@ -10,6 +10,7 @@ import time
 
 import case
 import common
+import processes
 
 BOUND = 300                 # seconds after which a call hangs: others may have the processors
 PACKET = b"$?#3f"
@@ -133,8 +134,7 @@ class OutputsTest(case.Case):
         done = subprocess.run([sys.executable, common.COMPANION, "why", log, elf],
                               stdout=subprocess.PIPE, stderr=theirs, check=False)
         os.close(theirs)
-        said = os.read(ours, 65536).decode()
-        os.close(ours)
+        said = processes.shown_at(ours).decode()
         self.assertEqual(done.returncode, 0)
         self.assertRegex(said,
                          r"\A\r[\d,]+ of 60,000 rows are read\x1b\[K(\r[^\r]*\x1b\[K)*\r\x1b\[K\Z")

@@ -1,4 +1,7 @@
-"""The processes of this machine, as /proc tells them."""
+"""The processes of this machine, as /proc tells them, and what they write to a terminal."""
+
+import contextlib
+import os
 
 
 def below(process):
@@ -17,3 +20,13 @@ def is_running(process):
             return file.read().rsplit(")", 1)[1].split()[0] != "Z"
     except OSError:
         return False
+
+
+def shown_at(terminal):
+    """All that a terminal shows, until nobody can write to it; it is closed then. It comes in
+    pieces, of which some may be late."""
+    shown = b""
+    with os.fdopen(terminal, "rb", 0) as file, contextlib.suppress(OSError):
+        while piece := file.read(65536):
+            shown += piece
+    return shown

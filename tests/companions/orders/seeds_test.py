@@ -13,6 +13,7 @@ import time
 
 import cases
 from common import COMPANION, EXAMPLES, PROGRAM, content
+from processes import shown_at
 from recordings import (A0, A1, A2, A7, DATA, ECALL, EXIT, T0, addi, branch_unless_equal,
                         elf_of, load, lui, store)
 
@@ -473,8 +474,7 @@ def case_progress_on_a_terminal(recordings):
     words = ["--only", "seeds", "1", "2", "--", "--harts", "2", HAND_OVER, folder.log, folder.book]
     done = subprocess.run([*SEEDS, *words], stdout=subprocess.PIPE, stderr=theirs, check=False)
     os.close(theirs)
-    said = os.read(ours, 65536).decode()
-    os.close(ours)
+    said = shown_at(ours).decode()
     assert done.returncode == NOT_FOUND
     assert re.search(r"\r\d of 1 to 2, [\d.]+ runs a second, \d of status 0\x1b\[K", said), said
     assert said.replace("\r\n", "").endswith("\r\x1b[Kzelkuma: "
