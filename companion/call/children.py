@@ -13,17 +13,17 @@ from .streams import on_interrupt, uninterrupted
 
 try:
     import ctypes
-    prctl: Any = ctypes.CDLL(None).prctl
+    SYSTEM: Any = ctypes.CDLL(None)
 except (ImportError, OSError):                  # a python without it can't ask the system
-    prctl = None
+    SYSTEM = None
 FAILED = 1
 SET_DEATH_SIGNAL = 1        # PR_SET_PDEATHSIG of prctl(2)
 
 
 def tie(parent: int, how: int = signal.SIGKILL) -> None:
     """In a new process: the system ends it by this signal when its parent ends."""
-    if prctl:
-        prctl(SET_DEATH_SIGNAL, how)
+    if SYSTEM:
+        SYSTEM.prctl(SET_DEATH_SIGNAL, how)
     if os.getppid() != parent:                  # it has ended by now
         os._exit(1)
 

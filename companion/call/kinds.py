@@ -37,7 +37,7 @@ def text_kind(name: str, begins: str, ends: str, once: str) -> FileKind:
         with open(file_name, "rb") as file, mmap.mmap(file.fileno(), 0,
                                                       access=mmap.ACCESS_READ) as text:
             first = text.find(mark)
-            return bool(head.match(text) and text[-len(tail):] == tail and first >= 0
+            return bool(head.match(text) and text[-len(tail):] == tail and first != -1
                         and text.find(mark, first + 1) < 0 and text.find(b"\0") < 0)
 
     return FileKind(name, fits)

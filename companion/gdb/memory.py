@@ -29,8 +29,8 @@ from .steps import Steps
 LOWEST = 4096  # no address below is mapped
 BATCH = 256  # words asked for at once
 BLOCK = 4096  # steps that are looked through at once
-AHEAD = 16 * BLOCK
-MOST_BLOCKS = 64  # that are kept
+AHEAD = 16 * BLOCK  # steps in which a word's next access is looked for: farther is unknown
+MOST_BLOCKS = 64  # that are kept: those of four such searches
 # Of a row's two, the load is first
 ACCESS = re.compile(rb"\| (load|store) ([0-9a-f]{8})=([0-9a-f]{8})")
 

@@ -15,7 +15,8 @@ from .session import Session
 from .stops import HartStop, WatchStops
 from .target import INTERRUPTED, TRAP
 
-# Steps between two looks at gdb
+# Steps between two looks at gdb, for Ctrl-C: few at first, as most motions are short, then twice as
+# many each time
 FIRST_CHUNK = 64
 LARGEST_CHUNK = 1 << 16
 SINGLE_STEPS = 16  # of a range before it continues by chunks: a step too far takes a way back

@@ -3,7 +3,7 @@ from __future__ import annotations
 
 from typing import Dict, Iterable, List, Mapping, Optional, Sequence
 
-from ..recording.chunks import chunks, places, row_at
+from ..recording.chunks import chunks, occurrences, row_at
 from ..recording.elf import Elf
 from ..recording.log import Log
 from .actions import FAULT, KEY, Actions
@@ -82,7 +82,7 @@ class CheckedRun(Checks):
         """The place of the row behind an allocator's function that is under way, or the end if it
         isn't among these."""
         assert hart.awaited
-        for place in places(text, b" %s " % hart.awaited.back, at):
+        for place in occurrences(text, b" %s " % hart.awaited.back, at):
             row = text.rfind(b"\n", 0, place) + 1
             if row + begin == place + 1:
                 self.inside(hart, text[at:row])

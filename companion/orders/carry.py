@@ -11,15 +11,17 @@ from .marks import CALL, FAULT, Mark, Order, Point
 from .meaning import Turn, access_of
 from .runs import Runs
 
-# Of a hart, in which its mark is looked for
+# Turns of a hart in which its mark is looked for: few at first, as each look is a recording that is
+# replayed, and so many times more twice.
 LEAST_TURNS = 2000
-MOST_TURNS = 128000
-TIMES = 8                                   # so many times more, until it is there
-# Of a hart that waits so many turns have so few addresses of code
-SPIN_TURNS = 120
+TIMES = 8
+MOST_TURNS = LEAST_TURNS * TIMES**2
+# A hart that waits takes its turns at few addresses: so many turns are five rounds at so many.
 SPIN_CODE = 24
-MOST_WAITS = 4                              # so often others let a hart continue up to one mark
-# Turns that the last hart gets, once it goes round and round
+SPIN_TURNS = 5 * SPIN_CODE
+# So often others let a hart continue up to one mark: each time costs a look for each of them.
+MOST_WAITS = 4
+# Turns that the last hart gets, once it goes round and round: two rounds, and some
 BEHIND = 64
 KEPT = "kept"
 FORBIDDEN = "forbidden"

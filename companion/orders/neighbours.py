@@ -11,10 +11,11 @@ from ..recording.turns import Piece, Pieces, again_at, joined
 from .runs import AskedTurns
 from .windows import SLACK, shifted
 
-# Turns by which one switch is moved at most, and each of several
+# Turns by which one switch is moved at most: the nearest ones come first, and the bound of tries
+# mostly ends them before. Each of several is moved by less, as it is drawn how far.
 FARTHEST = 64
 TOGETHER = 12
-LENGTHS = 1, 1, 2, 3, 5, 8, 13, 21, 34  # of bursts
+LENGTHS = 1, 1, 2, 3, 5, 8, 13, 21, 34  # of bursts: half are of at most 5 turns
 BURSTS = 4, 24                          # so many at least and at most
 MOST_HARTS_MOVED = 3                    # switches at once: with more it is another order, none near
 

@@ -114,8 +114,8 @@ def end_lines(end: Ended) -> List[str]:
         said = [f"end fault {end.reason}" + (f" in {place_text(end.point)}" if end.point else "")]
         return said + ([f"  from {place_text(end.caller)}"] if end.caller else [])
     if end.kind == LIMIT:
-        return ["end limit"] + ["  hart %d waits for %s"
-                                % (hart, " ".join(map(quoted_word, words)) if words else NO_SYMBOL)
+        return ["end limit"] + [f"  hart {hart} waits for "
+                                f"{' '.join(map(quoted_word, words)) or NO_SYMBOL}"
                                 for hart, words in end.waits]
     return [f"end exit {end.value}" if end.kind == EXIT else f"end output {end.place} {end.value}"]
 

@@ -12,8 +12,8 @@ from ..call.jobs import Jobs
 from .record import ENDS, Quick, refusal
 from .same_end import EndedRecording
 
-MOST_TRIES = 20000
-# So many tries for each that is under way may wait for those before them
+MOST_TRIES = 20000          # the longest search of those in bench/RESULTS.md made 6,984
+# So many tries for each that is under way may wait for those before them, whose files are kept
 AHEAD = 4
 
 

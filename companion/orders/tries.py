@@ -62,9 +62,9 @@ class Tries(SideBySide[Try, Pieces]):
         one.wait()
         return one.made()
 
-    def begin(self, pieces: Pieces) -> Try:
+    def begin(self, asked: Pieces) -> Try:
         self.started += 1
-        return Try(self.ends.quick, self.options, self.ends.elf.name, self.started - 1, pieces)
+        return Try(self.ends.quick, self.options, self.ends.elf.name, self.started - 1, asked)
 
     def first(self, candidates: Iterable[Pieces], most: tuple[int, int]) -> Optional[HeldTry]:
         """The first candidate that ends as wanted and is smaller than `most` says."""

@@ -18,10 +18,11 @@ from .record import LIMIT as STATUS_LIMIT
 from .runs import GROWN, AskedTurns, Runs
 
 HOLDS = 0                           # the status
-TRIES = 300
+TRIES = 300                         # two seconds of processor time for a short run
 MOST_TRIES = 100000
 MOST_INSTRUCTIONS = 20000000000     # of all orders near one; a run that is longer has fewer of them
-# So many of the orders tried would crash if the build were the recorded one
+# So many of the orders tried would crash if the build were the recorded one: that none does is then
+# no chance, of which there is one in e^20.
 ENOUGH = 20
 MOST_ENDINGS = 5                    # are told
 STATUS = {WELL: HOLDS, FAULT: STATUS_FAULT, LIMIT: STATUS_LIMIT}

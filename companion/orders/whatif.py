@@ -268,11 +268,11 @@ class WhatIfAnswer(NamedTuple):
         asked = self.question
         return {"hart": asked.at.hart, "count": asked.at.count, "execution": asked.done.number,
                 "executions": asked.times, "is_sound": self.compared.is_sound,
-                "turns": self.compared.turns, "was": said(self.was),
-                "now": said(self.now) if self.compared.is_sound else None}
+                "turns": self.compared.turns, "was": end_answer(self.was),
+                "now": end_answer(self.now) if self.compared.is_sound else None}
 
 
-def said(end: EndedRun) -> Optional[Dict[str, Any]]:
+def end_answer(end: EndedRun) -> Optional[Dict[str, Any]]:
     return ({"reason": end.reason, "hart": end.hart, "address": f"{end.pc:08x}", "turns": end.turns}
             if end.reason else None)
 

@@ -13,7 +13,7 @@ from ..call.help import Help
 from ..call.options import read_words, whole
 from ..call.text import clean, columns, counted
 from ..recording.answers import place_of, put_found
-from ..recording.chunks import places, row_at
+from ..recording.chunks import occurrences, row_at
 from ..recording.cut import count_of, cut, hart_of
 from ..recording.elf import Elf
 from ..recording.instruction import JUMP, Instruction
@@ -224,7 +224,7 @@ class FoundCalls:
     def arrivals(self, text: bytes) -> Iterator[Arrival]:
         """The calls of the next chunk."""
         for needle, begin in self.begins.items():
-            for at in places(text, needle):
+            for at in occurrences(text, needle):
                 place = text.rfind(b"\n", 0, at)
                 row = self.row_before(text, place)
                 source = self.source_of(row) if row else None

@@ -23,9 +23,10 @@ LINE = re.compile(r"[\w./+@-]+:\d{1,7}")
 MISTAKES = re.compile(r"No symbol|no member|syntax error|No type|No struct|No union|No "
                       r"enum|Invalid|Attempt to|ncast|Argument to|not scalar|no component|Can't "
                       r"do|is a function")
+# So that a value fits a line of a terminal, and its names beside it
 LONGEST_TEXT = 60
 MOST_PARTS = 12
-MOST_EXPRESSIONS = 32
+MOST_EXPRESSIONS = 32       # a screen for one time
 LOWEST = 4096               # no address below is mapped
 PC = len(NAMES)             # gdb's number of the program counter
 
@@ -50,7 +51,7 @@ class Expression:
             if MISTAKES.search(error):
                 raise CompanionError(f"{clean(text)}: {error}", REFUSED)
             return cls(text, error="optimized out" if "optimized out" in error else error)
-        codes: Dict[int, Code] = {int(place): [(at, name, operand) for at, name, operand in code]
+        codes: Dict[int, Code] = {int(place): [(each[0], each[1], each[2]) for each in code]
                                   for place, code in said["codes"].items()}
         return cls(text, codes, bounded_type(said["type"]), said["whole"], said["text"])
 

@@ -26,11 +26,11 @@ symbol (`arena`, `arena+56`) or of a variable's part (`&orders[3]`). Of each pla
 first and the last time, how often, and what it did with the value: put it into a register, loaded
 it or stored it.""",
     more="A word that holds the value while no row touches it isn't seen.")
-# With the value are told by place; of the others only the number is told
+# With the value are told by place, which takes memory; of the others only the number is told
 MOST_ROWS = 2000000
-TOLD = 100
-MOST_FRAMES = 3
-MOST_WORDS = 3
+TOLD = 100                  # places: some screens
+MOST_FRAMES = 3             # callers in a line
+MOST_WORDS = 3              # of a place in a line
 VERBS = {b"load ": "loads it from", b"store": "stores it to"}
 
 

@@ -11,7 +11,7 @@ import re
 from typing import Any, Iterator, Optional
 
 gdb: Any = importlib.import_module("gdb")     # only there inside of gdb
-# Of a type
+# Of a type: a forged one can be endless
 MOST_PARTS = 4000
 DEEPEST = 12
 # Sources whose functions have no parameters for DWARF, whatever they take

@@ -16,6 +16,7 @@ from .waiting import Loops, Waits
 # A viewer in a browser holds all in memory.
 MOST_EVENTS = 500000
 MOST_EDGES = 2000       # arrows: more of them hide what they lie over
+# A tenth of them each, so that calls have the most
 MOST_TURNS = 50000
 MOST_WAITS = 50000
 PROCESS = 1  # of the harts

@@ -25,12 +25,14 @@ DIGITS = "0123456789abcdef"
 TOP = 1 << 32               # addresses
 
 
-def chunks(log_name: str, elf_name: str, command: str = "joint", *words: str,
+def chunks(log_name: str, elf_name: str, *asked: str,
            log: Optional[Log] = None) -> Iterator[bytes]:
-    """All rows that a command prints, and at a terminal how many have been read, of how many if it
-    prints a whole `log`. It ends with the iterator, if that is dropped before."""
+    """All rows that a command prints, `joint` unless another is asked, and at a terminal how many
+    have been read, of how many if it prints a whole `log`. It ends with the iterator, if that is
+    dropped before."""
     of_all = f" of {number(log.rows())}" if log else ""
     ends = [interval.end for interval in reversed(log.intervals)] if log and log.harts == 1 else []
+    command, *words = asked or ("joint",)
     with Output(command, log_name, elf_name, *words) as out, streams.Progress() as progress:
         rest = b"\n"
         is_behind = False
@@ -117,7 +119,7 @@ def first_count(text: bytes) -> int:
     return count_of(text[:LONGEST_HEAD])
 
 
-def places(text: bytes, word: bytes, at: int = 0, end: Optional[int] = None) -> Iterator[int]:
+def occurrences(text: bytes, word: bytes, at: int = 0, end: Optional[int] = None) -> Iterator[int]:
     """The places of a word in a part of a text."""
     at = text.find(word, at, end)
     while at >= 0:
@@ -177,11 +179,6 @@ def words_in(ranges: Iterable[tuple[int, int]]) -> bytes:
     """A pattern of the addresses in words that have a byte of some ranges; nothing if there are
     none."""
     return b"|".join(hexadecimal(first & ~3, (end - 1) | 3) for first, end in ranges)
-
-
-def at(first: int, end: int) -> Pattern[bytes]:
-    """What rows have whose instruction is at an address from one up to another."""
-    return re.compile(rb"\n\d+ \d+ %s " % hexadecimal(first, end - 1))
 
 
 def hexadecimal(low: int, high: int) -> bytes:

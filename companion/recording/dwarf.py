@@ -249,12 +249,12 @@ def sections_of(data: bytes) -> dict[str, bytes]:
 def unsigned(data: bytes, at: int) -> tuple[int, int]:
     """A number of LEB128 and the place behind it."""
     found = shift = 0
-    for at in range(at, at + LONGEST_NUMBER):
-        byte = data[at]
+    for place in range(at, at + LONGEST_NUMBER):
+        byte = data[place]
         found |= (byte & 127) << shift
         shift += 7
         if byte < 128:
-            return found, at + 1
+            return found, place + 1
     raise ValueError(found)
 
 

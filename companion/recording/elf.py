@@ -22,6 +22,8 @@ FUNCTION = 2
 # Flags of a segment
 EXECUTABLE = 1
 WRITABLE = 2
+# Files may be forged, so each walk has an end. Of a program that fits into 64 MiB, no linker comes
+# near to these; the file has what a debugger needs, too.
 MOST_SEGMENTS = 1000
 MOST_SYMBOLS = 1000000
 LONGEST_NAME = 200

@@ -57,11 +57,11 @@ class Filter:
 
     def of_address(self, text: bytes) -> bytes:
         """What is put behind an address of code."""
-        return behind(self.places.named, text)
+        return name_behind(self.places.named, text)
 
     def of_data(self, text: bytes) -> bytes:
         """What is put behind an address of data."""
-        return behind(self.elf.data_name, text[:8])
+        return name_behind(self.elf.data_name, text[:8])
 
     def other(self, line: bytes, words: list[bytes]) -> bytes:
         """A line that is no row: an end, one of `list`, of `debug`, of `races`, a word of
@@ -91,7 +91,7 @@ class Filter:
         return self.of_data(words[2]) if words[1].startswith((b"Load", b"Store")) else b"\n"
 
 
-def behind(name_of: Callable[[int], str], address: bytes) -> bytes:
+def name_behind(name_of: Callable[[int], str], address: bytes) -> bytes:
     """The name of an address behind a line, with the line's end."""
     try:
         said = name_of(int(address, 16))
@@ -104,8 +104,7 @@ def filter_input(elf: Elf) -> int:
     """Each piece of the input is answered at once, so a session of `debug` can be read through
     it."""
     rest = b""
-    source = open(sys.stdin.fileno(), "rb", closefd=False)
-    with closing(Filter(elf)) as rows:
+    with open(sys.stdin.fileno(), "rb", closefd=False) as source, closing(Filter(elf)) as rows:
         while True:
             piece = source.read1(CHUNK)
             lines = (rest + piece).split(b"\n")

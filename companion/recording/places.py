@@ -26,8 +26,8 @@ AT_ONCE = 100               # so many questions fit into a pipe, whatever the an
 # hundred times what it needs.
 PATIENCE = 15.0
 PATIENCE_EACH = 0.005
-MOST_FRAMES = 64
-LARGEST_ANSWER = 4 << 20
+MOST_FRAMES = 64            # functions inlined in each other: a forged file can name any number
+LARGEST_ANSWER = 4 << 20    # bytes of an answer: 64 frames with the longest names that a path has
 MOST_MEMORY = 640 << 20     # of a tool, whatever an ELF file says
 PLACE = re.compile(r"(.*):(\d+|\?)(?: \(.*\))?", re.S)
 LONGEST_LINE_NUMBER = 9     # digits

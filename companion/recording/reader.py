@@ -11,7 +11,7 @@ from operator import itemgetter, ne
 from typing import Dict, Iterable, Iterator, Mapping, NamedTuple, Optional, Sequence
 
 from .calls import Calls
-from .chunks import places
+from .chunks import occurrences
 from .instruction import A0, A1, A7, AMO, CALL, JUMP, LOAD, STORE, Instruction
 from .log import FAILED, LONGEST_CALL, READ_CALL
 from .rows import CHANGED, FAULTS, KEEPS, LOADS, OFFSET, STORES, UNSTORED, FaultRow, ReadCall, Rows
@@ -152,7 +152,7 @@ class Reader:
         rows.flags.frombytes(shapes.translate(ACCESSED))
         self.writers.word.frombytes(bytes(self.writers.word.itemsize * len(codes)))
         self.link(turns, codes, alone)
-        for place in places(shapes.translate(WENT), bytes([GOES])):
+        for place in occurrences(shapes.translate(WENT), bytes([GOES])):
             self.go(self.start + place)
         self.access(lines, shapes, here)
 

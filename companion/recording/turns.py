@@ -17,7 +17,7 @@ Pieces = Tuple[Piece, ...]
 
 def pieces_of(turns: bytes) -> Pieces:
     """A byte is a turn, and says whose."""
-    return tuple([Piece(hart, len(list(same))) for hart, same in groupby(turns)])
+    return tuple(Piece(hart, len(list(same))) for hart, same in groupby(turns))
 
 
 def turns_of(pieces: Sequence[Piece]) -> bytes:

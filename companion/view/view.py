@@ -58,7 +58,7 @@ SCRIPTS = ("model.js", "questions.js", "timeline.js", "arrows.js", "story.js", "
            "panels.js", "chain.js", "controls.js")
 # In the page at most, which is to open at once
 RACES_ASKED = 20000     # lines of `races`
-RACE_GROUPS = 40
+RACE_GROUPS = 40        # some screens of a list, the likeliest first
 ARCS = 12               # of a group: more of them hide each other
 SUSPECTS = 3            # as `why` tells in brief
 ORIGINS = 6             # as `why` tells
@@ -130,9 +130,10 @@ class View:
         pairs = [pair for group in family
                  for pair in group.first if pair[0] is not one or pair[1] is not other]
         arcs = [self.arc(pair) for pair in [(one, other)] + pairs[:ARCS - 1]]
-        return dict(pairs=race_pairs(family), word=family_word(races, family), kind=family[0].kind,
-                    judged=judged.reason(family[0]), first=self.page.place(one.pc),
-                    second=self.page.place(other.pc), arcs=arcs)
+        return {"pairs": race_pairs(family), "word": family_word(races, family),
+                "kind": family[0].kind, "judged": judged.reason(family[0]),
+                "first": self.page.place(one.pc), "second": self.page.place(other.pc),
+                "arcs": arcs}
 
     def arc(self, pair: AccessPair) -> list[int]:
         """Hart, count and row of both accesses."""
@@ -157,20 +158,20 @@ class View:
         has_load = item.kind not in ALONE
         if has_load:
             steps.append(self.step("loaded it in", item.load))
-        return dict(at=self.page.point(item.guilty),
-                    place=self.page.place(self.crash.own_pc(item.guilty)), did=DID[item.kind],
-                    load=self.page.point(item.load) if has_load else None, steps=steps,
-                    why=item.why, pairs=item.rows,
-                    calledFrom=[frame.text() for frame in self.crash.callers(item.guilty)])
+        return {"at": self.page.point(item.guilty),
+                "place": self.page.place(self.crash.own_pc(item.guilty)), "did": DID[item.kind],
+                "load": self.page.point(item.load) if has_load else None, "steps": steps,
+                "why": item.why, "pairs": item.rows,
+                "calledFrom": [frame.text() for frame in self.crash.callers(item.guilty)]}
 
     def step(self, words: str, row: int) -> dict[str, Any]:
         told = self.crash.rows.load_of(row)
         text = as_text(told.value) if told else ""
         names = [self.crash.members.name(told.address), f"'{text}'" if text else ""] if told else []
-        return dict(words=words, at=self.page.point(row),
-                    place=self.page.place(self.crash.own_pc(row)),
-                    word=f"{told.address:08x}={told.value:08x}" if told else "",
-                    about=" ".join(filter(None, names)))
+        return {"words": words, "at": self.page.point(row),
+                "place": self.page.place(self.crash.own_pc(row)),
+                "word": f"{told.address:08x}={told.value:08x}" if told else "",
+                "about": " ".join(filter(None, names))}
 
     def no_suspect(self) -> str:
         """What is said if no row of the log stored the value."""
@@ -218,19 +219,21 @@ class View:
         ways = self.ways()
         origins = self.origins_drawn(ways)
         rows = self.rows(edges, ways, origins)
-        data: dict[str, Any] = dict(
-            elf=os.path.basename(crash.elf.name), log=os.path.basename(log.shown),
-            harts=log.harts, bytes=log.bytes,
-            rows=self.crash.rows.size, dropped=log.dropped, unread=log.unread,
-            intervals=page.intervals(), segments=list(page.segments()),
-            edges=edges, allEdges=len(log.edges.counts), strips=strips, functions=functions,
-            ends=[[hart, end.count, end.reason, f"{end.value:08x}"]
-                  for hart, end in sorted(log.ends.items())],
-            races=self.race_groups, allRaces=self.races.total if self.races else 0,
-            raceGroups=self.race_total, racesNote=self.races_note,
-            windows=[[each.hart, each.first, each.codes, "\n".join(each.tails), each.calls]
-                     for each in rows.windows],
-            nodes=[(0, 0), *rows.nodes], chain=chain_boxes(page, crash.history, ways, origins))
+        data: dict[str, Any] = {
+            "elf": os.path.basename(crash.elf.name), "log": os.path.basename(log.shown),
+            "harts": log.harts, "bytes": log.bytes,
+            "rows": self.crash.rows.size, "dropped": log.dropped, "unread": log.unread,
+            "intervals": page.intervals(), "segments": list(page.segments()),
+            "edges": edges, "allEdges": len(log.edges.counts), "strips": strips,
+            "functions": functions,
+            "ends": [[hart, end.count, end.reason, f"{end.value:08x}"]
+                     for hart, end in sorted(log.ends.items())],
+            "races": self.race_groups, "allRaces": self.races.total if self.races else 0,
+            "raceGroups": self.race_total, "racesNote": self.races_note,
+            "windows": [[each.hart, each.first, each.codes, "\n".join(each.tails), each.calls]
+                        for each in rows.windows],
+            "nodes": [(0, 0), *rows.nodes],
+            "chain": chain_boxes(page, crash.history, ways, origins)}
         data.update(self.end_data(), story=self.story)
         if self.with_questions:
             data["questions"] = questions_data(page, crash, self.suspects, self.races)
@@ -243,18 +246,19 @@ class View:
         crash = self.crash
         history = self.crash.history
         final = self.crash.rows.final[self.crash.rows.hart[crash.start]]
-        return dict(
-            start=self.page.point(crash.start), where=self.where(),
-            notes=crash.notes + unread(crash) + crash.places.trouble(),
-            fault=[self.fault.name, f"{self.fault.value:08x}"] if self.fault else None,
-            about=self.about(), words=self.words(),
-            memory=MemoryErrors(crash).lines(), hang=self.hang(),
-            suspects=[self.suspect(item) for item in self.suspects], noSuspect=self.no_suspect(),
-            chainRows=len(history.cost) - len(history.decided), chainCut=history.cut,
-            registers=[] if crash.asked else [f"{value:08x}" for value in final],
-            registerNames=NAMES,
-            origin=[[loads.times, *origin]
-                    for origin, loads in list(crash.origin.items())[:ORIGINS]])
+        return {
+            "start": self.page.point(crash.start), "where": self.where(),
+            "notes": crash.notes + unread(crash) + crash.places.trouble(),
+            "fault": [self.fault.name, f"{self.fault.value:08x}"] if self.fault else None,
+            "about": self.about(), "words": self.words(),
+            "memory": MemoryErrors(crash).lines(), "hang": self.hang(),
+            "suspects": [self.suspect(item) for item in self.suspects],
+            "noSuspect": self.no_suspect(),
+            "chainRows": len(history.cost) - len(history.decided), "chainCut": history.cut,
+            "registers": [] if crash.asked else [f"{value:08x}" for value in final],
+            "registerNames": NAMES,
+            "origin": [[loads.times, *origin]
+                       for origin, loads in list(crash.origin.items())[:ORIGINS]]}
 
     def about(self) -> str:
         crash = self.crash

@@ -70,9 +70,9 @@ def leads_into(history: History, log: Log, more: Log) -> bool:
     in a register that had another value at the start of an interval before."""
     for hart, register in history.left:
         known = log.first_intervals()[hart].registers[register]
-        earlier = {interval.registers[register]
-                   for interval in more.intervals if interval.hart == hart}
-        if register == NO_REGISTER or earlier != {known}:
+        values = {interval.registers[register]
+                  for interval in more.intervals if interval.hart == hart}
+        if register == NO_REGISTER or values != {known}:
             return True
     return False
 

@@ -230,7 +230,7 @@ class Blocks:
     def twice(self) -> list[tuple[int, int]]:
         """The calls that gave a block back twice: both rows."""
         found = []
-        for address, blocks in self.by_address.items():
+        for blocks in self.by_address.values():
             for block, following in zip(blocks, blocks[1:] + [None]):
                 rows = self.given_back(block, block.back,
                                        following.call if following else self.rows.size + 1)

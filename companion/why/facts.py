@@ -19,7 +19,8 @@ from .lock_words import Setting, setting
 from .loops import Loop
 
 LAST_ROWS = 12              # before the start, that the report shows: half a screen
-# What a hart did last, if it didn't fault
+# What a hart did last, if it didn't fault: its loads, and the exits of its loop, of which each is a
+# beginning of the history. There are twelve suspects at most.
 LOOP_ROWS = 300
 MOST_LOADS = 12
 MOST_EXITS = 12

@@ -10,7 +10,7 @@ from .history import History
 
 LARGEST_LOG = 1 << 28       # bytes: the largest that `record --log-size` makes
 MOST_LOADS = 400            # that are asked of: the report tells twenty places
-MOST_FRAMES = 4
+MOST_FRAMES = 4             # callers in a line
 
 
 class Origin(NamedTuple):

@@ -13,7 +13,7 @@ from ..call.options import read_words
 from ..call.text import counted, number
 from ..recording.answers import place_of as code_place, put_answer
 from ..recording.calls import entries_of
-from ..recording.chunks import after, chunks, few_ranges, places
+from ..recording.chunks import after, chunks, few_ranges, occurrences
 from ..recording.cut import count_of, hart_at
 from ..recording.elf import Elf
 from ..recording.followed import FollowedMemory
@@ -96,7 +96,7 @@ class OutputReader:
     def written(self, text: bytes) -> Iterator[Write]:
         self.followed.take(text)
         at = 0
-        for asked in places(text, ASKED):
+        for asked in occurrences(text, ASKED):
             begin = text.rfind(b"\n", 0, asked) + 1
             end = text.find(b"\n", asked)
             name = hart_at(text, begin)

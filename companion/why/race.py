@@ -137,12 +137,13 @@ def family_lines(races: Races, family: list[RaceGroup], place: int, judged: Judg
     reason = judged.reason(family[0])
     said = [f"{place:2}. {counted(race_pairs(family), 'pair')} on "
             f"{family_word(races, family)}{f'   ({reason})' if reason else ''}"]
-    for access in judged.pair(family[0]):
+    pair = judged.pair(family[0])
+    for access in pair:
         source = races.places.source(access.pc)
         said.append(f"      hart {access.hart} {access.verb()} in {races.places.where(access.pc)}"
                     f"{'   ' + source if source else ''}")
         said.append("        " + access.row)
-    return said + ["        " + line for line in beside(access)]
+    return said + ["        " + line for line in beside(pair[1])]
 
 
 def race_pairs(family: list[RaceGroup]) -> int:

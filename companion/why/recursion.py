@@ -8,10 +8,10 @@ from ..call.text import number
 from ..recording.trace import Trace
 from .suspect import Suspect
 
-DEEP = 500                  # calls
+DEEP = 500                  # calls: twice what a sound program has
 ASKED_FROM = 250            # deeper than a sound program goes, and before the stack did damage
 ASKED_CALLS = 64            # calls from there that are looked at: a circle of functions has fewer
-COST = 2
+COST = 2                    # as near as two values: so deep a stack explains the fault by itself
 
 
 class Recursion(NamedTuple):

@@ -195,10 +195,9 @@ class Ranking:
                 while pointer and rows.code_of(pointer).move:
                     pointer = writers.first[pointer]
                 if pointer and rows.code[pointer] == rows.code[n]:
-                    for load in (n, pointer):
-                        for store in writers.stores(load).rows:
-                            if store < hanging.first and store > latest.store:
-                                latest = Pair(load, store)
+                    before = [Pair(load, store) for load in (n, pointer)
+                              for store in writers.stores(load).rows if store < hanging.first]
+                    latest = max([latest, *before], key=lambda pair: pair.store)
         return latest
 
     def judge(self, item: Suspect, history: History) -> None:

@@ -64,18 +64,21 @@ def noise(draw, least=0):
     return bytes(draw.randrange(least, 256) for _ in range(draw.choice((40, 3000))))
 
 
+# How files of other kinds begin.
+HEADS = {"png": b"\x89PNG\r\n\x1a\n", "gif": b"GIF89a", "bmp": b"BM",
+         "jpeg": b"\xff\xd8\xff\xe0", "pdf": b"%PDF-1.7\n", "xz": b"\xfd7zXZ\0",
+         "zstd": b"\x28\xb5\x2f\xfd", "bzip2": b"BZh9",
+         "pcap": b"\xd4\xc3\xb2\xa1\2\0\4\0" + bytes(8), "pcapng": b"\n\r\r\n",
+         "sqlite": b"SQLite format 3\0", "class": b"\xca\xfe\xba\xbe", "wasm": b"\0asm\1\0\0\0",
+         "midi": b"MThd\0\0\0\6\0\1\0\2", "ogg": b"OggS\0\2", "flac": b"fLaC\0\0",
+         "elf64": b"\x7fELF\2\1\1\0", "squashfs": b"hsqs", "pickle": b"\x80\4\x95",
+         "icon": b"\0\0\1\0\1\0", "font": b"\0\1\0\0\0\x0c\0\x80"}
+
+
 def foreign(log, book, page, draw):
     """{kind: the bytes of such a file}"""
     cut = draw.randrange(len(log) - 1) + 1
-    heads = {"png": b"\x89PNG\r\n\x1a\n", "gif": b"GIF89a", "bmp": b"BM",
-             "jpeg": b"\xff\xd8\xff\xe0", "pdf": b"%PDF-1.7\n", "xz": b"\xfd7zXZ\0",
-             "zstd": b"\x28\xb5\x2f\xfd", "bzip2": b"BZh9",
-             "pcap": b"\xd4\xc3\xb2\xa1\2\0\4\0" + bytes(8), "pcapng": b"\n\r\r\n",
-             "sqlite": b"SQLite format 3\0", "class": b"\xca\xfe\xba\xbe", "wasm": b"\0asm\1\0\0\0",
-             "midi": b"MThd\0\0\0\6\0\1\0\2", "ogg": b"OggS\0\2", "flac": b"fLaC\0\0",
-             "elf64": b"\x7fELF\2\1\1\0", "squashfs": b"hsqs", "pickle": b"\x80\4\x95",
-             "icon": b"\0\0\1\0\1\0", "font": b"\0\1\0\0\0\x0c\0\x80"}
-    made = {name: head + noise(draw, 16) for name, head in heads.items()}
+    made = {name: head + noise(draw, 16) for name, head in HEADS.items()}
     samples = struct.pack("<200h", *(draw.randrange(-9000, 9000) for _ in range(200)))
     made.update({
         "iso": bytes(32768) + b"\1CD001\1\0" + noise(draw, 16),

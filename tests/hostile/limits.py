@@ -135,6 +135,16 @@ def running(session):
     return found
 
 
+def broken(targets, old):
+    """The files that a call lost, or left as neither the old ones nor whole new ones."""
+    for target, kind in targets.items():
+        if target in old and not os.path.exists(target):
+            yield f"{os.path.basename(target)} is lost"
+        elif (os.path.exists(target) and os.path.getsize(target)
+              and read(target) != old.get(target) and not kind.fits(target)):
+            yield f"{os.path.basename(target)} isn't whole"
+
+
 class Tries:
     def __init__(self, folder):
         self.folder = folder
@@ -201,12 +211,7 @@ class Tries:
         while self.left(targets, session) and time.monotonic() < until:
             time.sleep(0.02)
         told += self.left(targets, session)
-        for target, kind in targets.items():
-            if target in old and not os.path.exists(target):
-                told.append(f"{os.path.basename(target)} is lost")
-            elif (os.path.exists(target) and os.path.getsize(target)
-                  and read(target) != old.get(target) and not kind.fits(target)):
-                told.append(f"{os.path.basename(target)} isn't whole")
+        told += broken(targets, old)
         self.counts[f"{ended.status}"] += 1
         if told:
             self.wrong.append(word)

@@ -220,6 +220,16 @@ def damaged(data):
     return whole[:136] + bytes((whole[136] ^ 1,)) + whole[137:]
 
 
+def fault_of_kind(kind, plain, ended, without_harts):
+    """What is wrong with all runs of a kind together, or nothing."""
+    saved = sum(saved_by(plain))
+    if kind in ("sync", "rename") and plain.calls != saved:
+        return f"{plain.calls} calls of {kind} for {saved} saved files"
+    if kind == "open" and ended[plain.status] != saved:
+        return f"{ended[plain.status]} refused calls of open did no harm, for {saved} saved files"
+    return "no thread of a hart asked for room" if kind == "alloc" and without_harts else ""
+
+
 def try_command(folder, name, words, most):
     """Runs a command with each call of each kind refused; returns how many runs ended otherwise."""
     wrong = 0
@@ -249,16 +259,10 @@ def try_command(folder, name, words, most):
                 wrong += 1
                 print(f"{name}, {kind} {number}: {fault}: status {ran.status}, "
                       f"out {len(ran.out)}, err {ran.err!r}")
-        if kind in ("sync", "rename") and plain.calls != sum(saved_by(plain)):
+        fault = fault_of_kind(kind, plain, ended, in_threads and not of_harts)
+        if fault:
             wrong += 1
-            print(f"{name}: {plain.calls} calls of {kind} for {sum(saved_by(plain))} saved files")
-        if kind == "open" and ended[plain.status] != sum(saved_by(plain)):
-            wrong += 1
-            print(f"{name}: {ended[plain.status]} refused calls of open did no harm, "
-                  f"for {sum(saved_by(plain))} saved files")
-        if kind == "alloc" and in_threads and not of_harts:
-            wrong += 1
-            print(f"{name}: no thread of a hart asked for room")
+            print(f"{name}: {fault}")
         each = ", ".join(f"{status}: {count}" for status, count in sorted(ended.items()))
         print(f"| `{name}` | `{kind}` | {plain.calls:,} | {len(list(numbers)):,} | {each} |",
               flush=True)

@@ -108,16 +108,22 @@ def calls(folder, new, share):
         {f"export {option}": Word(["export", *few, option, new + option], {new + option: kind})
          for option, kind in export.KINDS.items()})
     found["why --html"] = Word(["why", *few, "--html", new + ".html"], {new + ".html": kinds.PAGE})
+    found["convert"], found["salvage"] = (saves([word, many[0]], new)
+                                          for word in ("convert", "salvage"))
+    found["again"] = saves(["again", *many, f"{folder}/many.book"], new)
+    found["shrink"] = saves(["shrink", *harts, f"{folder}/harts.book"], new, new + ".book")
+    return {**found, **saved_runs(new, share)}
+
+
+def saved_runs(new, share):
+    """{name: Word}, of what records."""
+    found = {}
     found["record"] = saves(["record", *LARGE, *many_rows(share), HANG], new, new + ".book")
     found["record in threads"] = saves(["record", "--format", "2", "--harts", "4", "--limit",
                                         str(10000000 // share), f"{CRASHES}/hang_barrier.elf"],
                                        new, new + ".book")._replace(ends=(0, 11))
     found["record into a pipe"] = saves(["record", "--limit", "2000", HANG],
                                         new + ".pipe", new + ".book")
-    found["convert"], found["salvage"] = (saves([word, many[0]], new)
-                                          for word in ("convert", "salvage"))
-    found["again"] = saves(["again", *many, f"{folder}/many.book"], new)
-    found["shrink"] = saves(["shrink", *harts, f"{folder}/harts.book"], new, new + ".book")
     for options in ((), ("--shrink",), ("--compare",)):
         numbers = ["20", "20"] if options else ["--until", "11", "1", "300"]
         found[" ".join(["seeds", *options])] = saves(

@@ -2,7 +2,7 @@
 from __future__ import annotations
 
 import random
-from typing import Callable, Dict, List, NamedTuple, Tuple
+from typing import Callable, Dict, Iterator, List, NamedTuple, Tuple
 
 HEAD = """typedef unsigned int word;
 #define OWN __attribute__((noinline, noclone))
@@ -374,6 +374,15 @@ static OWN word pop(void)
 """
 
 
+def drawn_free(draw: random.Random, i: int, size: int) -> Iterator[str]:
+    """A block is given back, at times used then, and another one taken."""
+    yield f"free(blocks[{i}]);"
+    if draw.random() < 0.15:
+        yield draw.choice([f"got += get(blocks[{i}], 0);", f"set(blocks[{i}], 0, 7);",
+                           f"free(blocks[{i}]);"])
+    yield f"blocks[{i}] = malloc({size});"
+
+
 def drawn_heap_program(draw: random.Random) -> str:
     """Blocks that are taken, written, read and given back, most of them rightly."""
     code = [f"blocks[{i}] = malloc({4 + 8 * i});" for i in range(4)]
@@ -408,11 +417,7 @@ def drawn_heap_program(draw: random.Random) -> str:
             code.append(f"blocks[{i}] = {draw.choice(calls)};")
         elif kind < 0.95:
             sizes[i] = draw.randrange(1, 40)
-            code.append(f"free(blocks[{i}]);")
-            if draw.random() < 0.15:            # what comes next uses it
-                code.append(draw.choice([f"got += get(blocks[{i}], 0);",
-                                         f"set(blocks[{i}], 0, 7);", f"free(blocks[{i}]);"]))
-            code.append(f"blocks[{i}] = malloc({sizes[i]});")
+            code += drawn_free(draw, i, sizes[i])
         else:
             code.append(f"put_number(sum(blocks[{i}], {sizes[i]}));")
     return (HEAD + HEAP + "int main(int hart, int harts)\n{\n    word got = 0;\n    "

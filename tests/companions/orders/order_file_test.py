@@ -26,6 +26,43 @@ hart 3 to the end
 NAMES = ("main", "a b", 'say "x"', "operator<", "f#2", "Größe", "back\\slash", "a|b", "-",
          "until", "x:12")
 TEXTS = ("", "filter->taps = 0;", "a | b # c < d", "  if (x)".strip(), 'put("\\n");')
+# What a refusal says, and the line.
+BAD_LINES = (
+    ("no line of an order", "hart 0 untl load a in b"),
+    ("no line of an order", "hart 0 until load a"),
+    ("no line of an order", "hart 0 until load a in b #0"),
+    ("no line of an order", "hart 0 until load a in b c:x"),
+    ("no line of an order", 'hart 0 until load "a in b'),
+    ("no line of an order", "  hart 0 until load a in b"),
+    ("no line of an order", "end"), ("no line of an order", "end fault 7"),
+    ("no line of an order", "end exit 0"),
+    ("there is no hart 2", "hart 2 until load a in b"),
+    ("there is no hart 9", "hart 9 to the end"),
+    ("below a line 'hart N", "  not before load a in b"),
+    ("below a line 'hart N", "  under b"),
+    ("below 'end limit'", "  hart 0 waits for b"),
+    ("below 'end fault'", "  from b"),
+    ("says the program twice", "program b.elf"),
+    ("says the settings twice", "set --limit=3"),
+    ("an escape is none of", r'input "\q"'),
+    ("an escape is none of", r'input "\x4"'),
+    ("no more orders", "power 3 of 2"),
+    ("nowhere.in: No such file", "input-file nowhere.in"),
+    ("../in is no file beside this one", "input-file ../in"),
+    ("/in is no file beside this one", "input-file /in"),
+    ("no line of an order", "hart 0 until load a in b #9999999999"),
+    ("a byte is 0 to 255", "end output 3 256"),
+)
+BAD_SETTINGS = (
+    ("no setting of record", "set --harts=two"),
+    ("no setting of record", "set --seed=1"),
+    ("no setting of record", "set --harts=\u0664"),
+    ("no setting of record", "set harts=2"),
+    ("--harts is 1 to 16", "set --harts=17"),
+    ("--limit is 1 to 1099511627776", "set --limit=9999999999999999999"),
+    ("--limit is 1 to 1099511627776", "set --limit=" + "9" * 5000),
+    ("says --limit twice", "set --limit=1 --limit=2"),
+)
 
 
 def drawn_point(draw, access=None):
@@ -104,40 +141,10 @@ class OrderFileTest(case.Case):
             text, "\n".join(line for line in BY_HAND.split("\n") if line and line[0] != "#") + "\n")
 
     def test_each_bad_line_is_told_with_its_number(self):
-        for said, line in (("no line of an order", "hart 0 untl load a in b"),
-                           ("no line of an order", "hart 0 until load a"),
-                           ("no line of an order", "hart 0 until load a in b #0"),
-                           ("no line of an order", "hart 0 until load a in b c:x"),
-                           ("no line of an order", 'hart 0 until load "a in b'),
-                           ("no line of an order", "  hart 0 until load a in b"),
-                           ("no line of an order", "end"), ("no line of an order", "end fault 7"),
-                           ("no line of an order", "end exit 0"),
-                           ("there is no hart 2", "hart 2 until load a in b"),
-                           ("there is no hart 9", "hart 9 to the end"),
-                           ("below a line 'hart N", "  not before load a in b"),
-                           ("below a line 'hart N", "  under b"),
-                           ("below 'end limit'", "  hart 0 waits for b"),
-                           ("below 'end fault'", "  from b"),
-                           ("says the program twice", "program b.elf"),
-                           ("says the settings twice", "set --limit=3"),
-                           ("an escape is none of", r'input "\q"'),
-                           ("an escape is none of", r'input "\x4"'),
-                           ("no more orders", "power 3 of 2"),
-                           ("nowhere.in: No such file", "input-file nowhere.in"),
-                           ("../in is no file beside this one", "input-file ../in"),
-                           ("/in is no file beside this one", "input-file /in"),
-                           ("no line of an order", "hart 0 until load a in b #9999999999"),
-                           ("a byte is 0 to 255", "end output 3 256")):
+        for said, line in BAD_LINES:
             with self.subTest(line):
                 self.refused_line(said, line)
-        for said, line in (("no setting of record", "set --harts=two"),
-                           ("no setting of record", "set --seed=1"),
-                           ("no setting of record", "set --harts=\u0664"),
-                           ("no setting of record", "set harts=2"),
-                           ("--harts is 1 to 16", "set --harts=17"),
-                           ("--limit is 1 to 1099511627776", "set --limit=9999999999999999999"),
-                           ("--limit is 1 to 1099511627776", "set --limit=" + "9" * 5000),
-                           ("says --limit twice", "set --limit=1 --limit=2")):
+        for said, line in BAD_SETTINGS:
             with self.subTest(line):
                 name = common.written(common.path("set.order"),
                                       f"{order_file.HEAD}\nprogram a\n{line}\n")

@@ -93,8 +93,7 @@ class WhatIfTest(case.Case):
         """Rows by chance, of all kinds that can be set: each access of each hart is LOG's, to the
         end."""
         draw = random.Random(5)
-        refused = 0
-        tried = 0
+        refused = tried = 0
         programs, few = ((20, int(os.environ["ZELKUMA_ROWS"]) // 20) if "ZELKUMA_ROWS" in os.environ
                          else (PROGRAMS, ROWS))
         for name in draw.sample(sorted(name for name, crash in common.crashes().items()
@@ -108,12 +107,11 @@ class WhatIfTest(case.Case):
                 old = whatif.Turns(whole, elf, common.content(book))
                 for row in draw.sample(rows, few):
                     tried += 1
-                    with self.subTest(
-                            f"{name} "
-                            f"{row.hart}:{row.ic}"), whatif.Scratch() as folder, whatif.Quick(
-                            folder) as quick:
+                    place = f"{row.hart}:{row.ic}"
+                    with self.subTest(f"{name} {place}"), whatif.Scratch() as folder, \
+                            whatif.Quick(folder) as quick:
                         try:
-                            at = asked_row(f"{row.hart}:{row.ic}")
+                            at = asked_row(place)
                             question = whatif.question_of(found, whole, at,
                                                           {"--set": f"{row.result:08x}"})
                             code = NewCode(question.done, whatif.registers_for(whole, found))

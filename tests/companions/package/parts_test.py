@@ -1,14 +1,15 @@
 """The parts of the companions: each imports what its head says that it may use, and no two use each
-other."""
+other. No function here or in the tests is long."""
 from __future__ import annotations
 
 import ast
 import os
+import pathlib
 import re
 import unittest
 from typing import Iterator, Tuple
 
-from common import COMPANION
+from common import COMPANION, TOP
 
 SYSTEMS = "_exit", "_replace", "_asdict", "_fields"
 PARTING = "split", "rsplit", "partition", "rpartition"
@@ -102,6 +103,14 @@ class Parts(unittest.TestCase):
         for place, node in calls_outside("call"):
             if isinstance(node.func, ast.Attribute) and isinstance(node.func.value, ast.Name):
                 self.assertNotEqual((node.func.value.id, node.func.attr), ("os", "wait"), place)
+
+    def test_functions_have_under_40_lines(self) -> None:
+        for folder in ("companion", "python", "tests", "bench", "tools", "examples"):
+            for name in pathlib.Path(TOP, folder).rglob("*.py"):
+                for node in ast.walk(ast.parse(name.read_text(encoding="utf-8"))):
+                    if isinstance(node, ast.FunctionDef):
+                        self.assertLess((node.end_lineno or 0) - node.lineno, 39,
+                                        f"{name}:{node.lineno} {node.name}")
 
     def test_none_stands_outside(self) -> None:
         self.assertEqual(sorted(name for name in os.listdir(COMPANION) if name.endswith(".py")),

@@ -45,13 +45,6 @@ class ChunksTest(case.Case):
                     self.assertEqual(self.found(chunks.touching(first, first + size, *kinds)),
                                      list(dict.fromkeys(expected)))
 
-    def test_rows_at_addresses(self):
-        for place in sorted({int(row.split(b" ")[2], 16) for row in self.rows}):
-            for size in (4, 64):
-                expected = [row for row in self.rows
-                            if place <= int(row.split(b" ")[2], 16) < place + size]
-                self.assertEqual(self.found(chunks.at(place, place + size)), expected)
-
     def test_rows_of_a_hart(self):
         log = read_log(self.log)
         for hart in range(4):
