@@ -193,8 +193,9 @@ class Sums:
             rows[rd] = row
 
         def unsure(row: bytes) -> None:
-            number = (hart.value(rs1 if tags[rs1] is None else rs2)
-                      if None in (tags[rs1], tags[rs2]) else 0)
+            number: Optional[int] = 0
+            if None in (tags[rs1], tags[rs2]):
+                number = hart.value(rs1 if tags[rs1] is None else rs2)
             (add if one.name == "add" else subtract)(row)
             if number is None or LEAST_ADDRESS <= number <= FULL - LEAST_ADDRESS:
                 tags[rd] = None

@@ -122,7 +122,7 @@ class UndefinedBits:
         """An instruction without an access has run."""
         x = hart.undefined.get(one.rs1)
         y = hart.undefined.get(one.rs2) if one.rs2 else None
-        bits = result_bits(hart, one, x.bits if x else 0, y.bits if y else 0) if x or y else 0
+        bits = result_bits(hart, one, sum_bits(x), sum_bits(y)) if x or y else 0
         source = x or y
         if bits and one.rd and source:
             hart.undefined[one.rd] = Undefined(bits, source.origin)

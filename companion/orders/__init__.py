@@ -1,4 +1,4 @@
-"""Orders of harts: the searches `seeds` and `shrink`, `again` after a BOOK, and what two harts did
-without an order (`race`).
+"""Orders of harts: the searches `seeds` and `shrink`, `again` after a BOOK, and whether a later
+build still crashes (`recheck`).
 
 May use: call, recording, why, questions."""

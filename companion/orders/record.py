@@ -56,6 +56,12 @@ class Plan(NamedTuple):
                 if self.kind in (Kind.BURSTS, Kind.SLEEPER) else "")
 
 
+def option_word(name: str, value: str) -> str:
+    if not RECORD_OPTIONS[name]:
+        return name
+    return f"{name}={decimal(value) if name in NUMBERS else value}"
+
+
 class RecordWords:
     """What the words of `record` name.
 
@@ -75,8 +81,7 @@ class RecordWords:
         if len(self.names) == 2 and not self.is_lean:
             raise CompanionError("the words of record have no BOOK", REFUSED)
         self.elf, *self.outputs = self.names
-        self.options = [f"{name}={decimal(value) if name in NUMBERS else value}"
-                        if RECORD_OPTIONS[name] else name for name, value in options.items()]
+        self.options = [option_word(name, value) for name, value in options.items()]
         self.read = self.elf, options.get("--input", "")
         check_regular(*self.read)
         self.named_targets = self.saved(self.outputs)

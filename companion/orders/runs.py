@@ -27,8 +27,8 @@ DEFAULT_LIMIT = 1000000000  # of record
 # So many times the limit is tried before a run is called a hang: a guess, and what a hang costs
 GROWN = 16
 MOST_LIMIT = 1 << 40        # that record takes
-# Instructions of a hart in a recording of which the first turns count. Are they too few, another one
-# is made, so these are to be few and mostly enough.
+# Instructions of a hart in a recording of which the first turns count. If they are too few, another
+# one is made: few are cheap, and mostly enough.
 LEAST_LOOK = 1000000
 PER_TURN = 64
 LEAST_LOG = 1 << 24         # bytes of a log: all turns up to a mark have to be in it

@@ -51,8 +51,8 @@ def parted(teller: Teller, *rows: Row) -> list[list[str]]:
         for each in frames:
             each.pop()
     is_one_function = all(frames) and len({each[-1].function for each in frames}) == 1
-    return [[frame_text(each[-1 if is_one_function else 1])] if len(each) > 1 else []
-            for each in frames]
+    place = -1 if is_one_function else 1
+    return [[frame_text(each[place])] if len(each) > 1 else [] for each in frames]
 
 
 def switch_answer(teller: Teller, one: Bounded) -> dict[str, Any]:

@@ -299,8 +299,11 @@ class Reader:
                   else array("I"))
         rows.updates.extend(both)
         rows.stored.extend(stored)
-        told = numbers([line[-43:-26] if kind == BOTH else line[-17:] for line, kind
-                        in zip(mine, kinds)] if both else [line[-17:] for line in mine])
+        last = [line[-17:] for line in mine]
+        if both:
+            last = [line[-43:-26] if kind == BOTH else line[-17:]
+                    for line, kind in zip(mine, kinds)]
+        told = numbers(last)
         rows.accesses.extend(which)
         rows.addresses.extend(told[::2])
         rows.words.extend(told[1::2])

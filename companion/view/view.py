@@ -167,7 +167,9 @@ class View:
     def step(self, words: str, row: int) -> dict[str, Any]:
         told = self.crash.rows.load_of(row)
         text = as_text(told.value) if told else ""
-        names = [self.crash.members.name(told.address), f"'{text}'" if text else ""] if told else []
+        names = [self.crash.members.name(told.address)] if told else []
+        if text:
+            names.append(f"'{text}'")
         return {"words": words, "at": self.page.point(row),
                 "place": self.page.place(self.crash.own_pc(row)),
                 "word": f"{told.address:08x}={told.value:08x}" if told else "",

@@ -172,7 +172,8 @@ def race_report(races: Races, judged: Judged, more: bool, beside: Beside) -> lis
     lines = [f"RACES: {counted(races.total, 'pair')} in {counted(total, 'group')}. "
              "Grouping and order are this command's own judgement; zelkuma races lists each."]
     for kind, found in families.items():
-        told = found if more else found[:BRIEF_TOLD if kind else GROUPS_TOLD]
+        most = BRIEF_TOLD if kind else GROUPS_TOLD
+        told = found if more else found[:most]
         if kind and found:
             lines.append(f"{HEADS[kind]} ({counted(sum(map(race_pairs, found)), 'pair')})")
         elif total and not kind and not found:

@@ -128,12 +128,11 @@ def same_by_library(asked: Asked, word: str, name: str, entries: Sequence[Dict[s
     told = json.loads(done.stdout)
     if not asked.same("same: library", [word, name], len(told), len(entries)):
         return
+    keys = ("part", "old", "new") if word == "history" else ("arguments", "result", "rows")
     for one, entry in zip(told, entries):
-        own = ({key: one[key] for key in ("hart", "at", "part", "old", "new") if key in one}
-               if word == "history"
-               else {key: one[key] for key in ("hart", "at", "arguments", "result", "rows")})
-        other = ({("at" if key == "count" else key): entry[key]
-                  for key in ("hart", "count", "part", "old", "new") if key in entry} if word
-                 == "history" else {("at" if key == "count" else key): entry[key]
-                                    for key in ("hart", "count", "arguments", "result", "rows")})
+        # A change can lack a part or a value, a call nothing
+        own, other = ({key: each[key] for key in keys if key in each or word != "history"}
+                      for each in (one, entry))
+        own.update(hart=one["hart"], at=one["at"])
+        other.update(hart=entry["hart"], at=entry["count"])
         asked.same("same: library", [word, name], own, other)

@@ -70,9 +70,10 @@ class Call:
 
     def old(self, mode=0o644):
         """What may be overwritten: an older file of the same kind."""
-        if not self.older:
-            self.older = (content(self.other_log) if self.head == LOG_HEAD[0]
-                          else self.with_word(b", 1: 0" if self.tail == b"}\n" else b"of before\n"))
+        if not self.older and self.head == LOG_HEAD[0]:
+            self.older = content(self.other_log)
+        elif not self.older:
+            self.older = self.with_word(b", 1: 0" if self.tail == b"}\n" else b"of before\n")
         written(self.target, self.older)
         os.chmod(self.target, mode)
         return self.target
