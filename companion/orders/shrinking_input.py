@@ -115,7 +115,7 @@ def shrink_input(asked: AskedInput) -> ShrunkInput:
         with closing(asked.program) as program:
             bucket = bucket_of(cause_of(made.read, program.elf.name), program.elf, program.places)
         suspects = None if signals.status else first_suspects(made, asked)
-        return ShrunkInput(input_lines(asked, found, made, bucket, suspects),
+        return ShrunkInput(shrunk_lines(asked, found, made, bucket, suspects),
                            input_answer(asked, found, made, bucket, suspects), signals.status)
 
 
@@ -131,8 +131,8 @@ def counts_of(asked: AskedInput, made: EndedRecording) -> tuple[int, int]:
     return load_log(asked.log).ends[HART].count, made.read.ends[HART].count
 
 
-def input_lines(asked: AskedInput, found: InputSearch, made: EndedRecording, bucket: Bucket,
-                suspects: Optional[FirstSuspects]) -> list[str]:
+def shrunk_lines(asked: AskedInput, found: InputSearch, made: EndedRecording, bucket: Bucket,
+                 suspects: Optional[FirstSuspects]) -> list[str]:
     before, after = counts_of(asked, made)
     options = [f"{name}={value}" for name, value in input_options(asked, found).items()]
     again = ["zelkuma", "record", *options, f"--input={asked.new.path}", "--",

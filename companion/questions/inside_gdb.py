@@ -162,7 +162,7 @@ def line(spec: str, expressions: Optional[list[str]]) -> dict[str, Any]:
         return {"places": []}
     texts = locals_at(found[0]) if expressions is None else expressions
     return {"places": found, "texts": texts,
-            "expressions": [compiled_by_gdb(spec, found, each) for each in texts]}
+            "expressions": [compiled_expression(spec, found, each) for each in texts]}
 
 
 def locals_at(place: int) -> list[str]:
@@ -177,7 +177,7 @@ def locals_at(place: int) -> list[str]:
     return list(found)[:MOST_LOCALS]
 
 
-def compiled_by_gdb(spec: str, places: list[int], expression: str) -> dict[str, Any]:
+def compiled_expression(spec: str, places: list[int], expression: str) -> dict[str, Any]:
     """The type of an expression, and its bytecode at each place. The value of what is `whole` isn't
     given, but its address."""
     try:
