@@ -1,10 +1,11 @@
 #!/usr/bin/env python3
 """Makes debug information that no compiler wrote, and gives it to each companion that tells names.
 
-tests/hostile/forged_dwarf.py [COUNT [SEED [WORDS]]]: so many files (2000), and of each so many
-drawn words (all). A file is a program of tests/crashes with good information of its functions and
-variables. One to three things of it are forged: sizes, counts, cycles, depths, offsets, locations,
-line tables, names, units, compressed sections, links to other files. Each is recorded.
+tests/hostile/forged_dwarf.py [--from N] [COUNT [SEED [WORDS]]]: so many files (2000), and of each
+so many drawn words (all). A file is a program of tests/crashes with good information of its
+functions and variables. One to three things of it are forged: sizes, counts, cycles, depths,
+offsets, locations, line tables, names, units, compressed sections, links to other files. Each is
+recorded.
 
 A call has to end with an answer, or with a line and a status; without a traceback, within 10 s of
 processor time and 400 MB, with all of its processes. It ends with 1 if one ended otherwise."""
@@ -21,7 +22,7 @@ import dwarf_file as dw
 import forked
 from dwarf_file import (ADDRESS, DATA1, DATA2, DATA4, DATA8, EXPRESSION, FLAG, REF4, REF_ADDRESS,
                         SEC_OFFSET, SIGNED, STRING, STRP, UDATA, Die)
-from tried import TOP, write
+from tried import TOP, numbered, taken_from, write
 
 sys.path.insert(0, TOP)
 from companion.call import program                            # noqa: E402
@@ -389,10 +390,11 @@ class Tries:
 
 
 def main(words):
+    first = taken_from(words)
     count, seed, most = map(int, [*words, *("2000", "1", "99")[len(words):]])
     with tempfile.TemporaryDirectory() as folder:
         tries = Tries(folder)
-        for number in range(count):
+        for number in numbered(range(count), first):
             tries.one(number, random.Random(seed << 40 | number), most)
         os.chdir(TOP)
     print(f"the slowest took {tries.slowest[0]:.1f} s: {tries.slowest[1]}; "

@@ -2,7 +2,7 @@
 """Calls every word under limits of memory, open files, processes, the length of files and processor
 time, without /proc or /dev/shm, and as another user in folders of others.
 
-tests/hostile/limits.py [EACH [SEED]]: of each word so many drawn limits (all).
+tests/hostile/limits.py [--from N] [EACH [SEED]]: of each word so many drawn limits (all).
 
 A call has to end with a status of docs/COMMANDS.md, and with lines on err if that isn't 0, 10 or
 11; without a traceback, unless python itself can't begin. An older target is as it was, or a whole
@@ -21,7 +21,7 @@ import tempfile
 import time
 
 import forked
-from tried import TOP, read, write
+from tried import TOP, numbered, read, taken_from, write
 
 sys.path.insert(0, TOP)
 from companion.call import kinds, program                     # noqa: E402
@@ -238,13 +238,15 @@ def settings():
 
 
 def main(words):
+    first = taken_from(words)
     every = list(settings())
     draw = random.Random(int(words[1]) if len(words) > 1 else 1)
     with tempfile.TemporaryDirectory() as folder:
         tries = Tries(folder)
-        for word in tries.calls:
-            for setting in draw.sample(every, min(len(every), int(words[0]))) if words else every:
-                tries.one(word, *setting)
+        all_tries = ((word, setting) for word in tries.calls for setting in (
+            draw.sample(every, min(len(every), int(words[0]))) if words else every))
+        for word, setting in numbered(all_tries, first):
+            tries.one(word, *setting)
     print(", ".join(f"status {status}: {count}" for status, count in sorted(tries.counts.items()))
           + f"; {len(tries.wrong)} calls ended otherwise")
     sys.exit(1 if tries.wrong else 0)

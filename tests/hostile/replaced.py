@@ -1,10 +1,10 @@
 #!/usr/bin/env python3
 """Replaces, cuts or removes LOG or ELF while a word is reading it.
 
-tests/hostile/replaced.py [EACH [SEED]]: of each word so many drawn ways (all): which file, how, and
-after which part of what the word takes. A call has to end with a status of docs/COMMANDS.md, with a
-line on err if that isn't 0, and without a traceback. What it answers can be of the old file or of
-the new one. It ends with 1 if a call ended otherwise."""
+tests/hostile/replaced.py [--from N] [EACH [SEED]]: of each word so many drawn ways (all): which
+file, how, and after which part of what the word takes. A call has to end with a status of
+docs/COMMANDS.md, with a line on err if that isn't 0, and without a traceback. What it answers can
+be of the old file or of the new one. It ends with 1 if a call ended otherwise."""
 import collections
 import os
 import random
@@ -16,7 +16,7 @@ import time
 
 import forked
 from limits import LAST_STATUS, WORDS_OF_PROGRAM, script
-from tried import TOP
+from tried import TOP, numbered, taken_from
 
 HANG = f"{TOP}/tests/crashes/hang.elf"
 OTHER = f"{TOP}/tests/crashes/use_after_free.elf"
@@ -82,14 +82,15 @@ class Tries:
 
 
 def main(words):
+    first = taken_from(words)
     every = [(which, how, part) for which in ("log", "elf") for how in HOW for part in PARTS]
     draw = random.Random(int(words[1]) if len(words) > 1 else 1)
     with tempfile.TemporaryDirectory() as folder:
         tries = Tries(folder)
-        for each in calls(tries.log, tries.elf):
-            for which, how, part in (draw.sample(every, min(len(every), int(words[0]))) if words
-                                     else every):
-                tries.one(each, getattr(tries, which), how, part)
+        all_tries = ((each, *way) for each in calls(tries.log, tries.elf) for way in (
+            draw.sample(every, min(len(every), int(words[0]))) if words else every))
+        for each, which, how, part in numbered(all_tries, first):
+            tries.one(each, getattr(tries, which), how, part)
     print(", ".join(f"status {status}: {count}" for status, count in sorted(tries.counts.items()))
           + f"; {len(tries.wrong)} calls ended otherwise")
     sys.exit(1 if tries.wrong else 0)

@@ -1,9 +1,9 @@
 #!/usr/bin/env python3
 """Ends each word that can last by INT, TERM and HUP, wherever it is, and looks at what it leaves.
 
-tests/hostile/signals.py [all | COUNT [SEED]]: each word, each signal, at six moments of what the
-word takes undisturbed, and as it begins to save; or so many drawn calls of each word (1). Every
-second signal comes to all processes of the call, as Ctrl-C does.
+tests/hostile/signals.py [--from N] [all | COUNT [SEED]]: each word, each signal, at six moments of
+what the word takes undisturbed, and as it begins to save; or so many drawn calls of each word (1).
+Every second signal comes to all processes of the call, as Ctrl-C does.
 
 A call has to end with 130, 143 or 129, and without a traceback, but for INT in the few milliseconds
 in which python itself begins. No process of it runs on, and nothing is left beside its targets, in
@@ -28,7 +28,7 @@ import time
 from typing import Dict, List, NamedTuple, Tuple
 
 import forked
-from tried import TOP, read, write
+from tried import TOP, numbered, read, taken_from, write
 
 sys.path[:0] = [TOP, f"{TOP}/tests/companions/lib"]
 from processes import below, is_running                       # noqa: E402
@@ -278,8 +278,10 @@ class Sweep:
                 os.killpg(call.process.pid, signal.SIGKILL)
                 call.ends()
                 self.took[name] = None, SOON
+                print(f"{name}: undisturbed it waits", flush=True)
             else:
-                self.took[name] = call.ends()
+                status, took = self.took[name] = call.ends()
+                print(f"{name}: undisturbed {took:.1f} s, status {status}", flush=True)
         return self.took[name]
 
     def one(self, name, number, moment):
@@ -321,21 +323,23 @@ class Sweep:
         print(line, flush=True)
 
 
+def drawn(every_word, draw, count):
+    """The name, signal and moment of so many calls of each word, or of all."""
+    for name, word in every_word.items():
+        moments = (*MOMENTS, SAVING) if word.targets else MOMENTS
+        every = [(name, number, moment) for number in STATUSES for moment in moments]
+        yield from draw.sample(every, min(len(every), count)) if count else every
+
+
 def main(words):
+    first = taken_from(words)
     draw = random.Random(int(words[1]) if len(words) > 1 else 1)
     is_all = words[:1] == ["all"]
-    count = int(words[0]) if words and not is_all else 1
+    count = 0 if is_all else int(words[0]) if words else 1
     with tempfile.TemporaryDirectory() as folder:
         sweep = Sweep(folder, 1 if is_all else FEWER)
-        for name, word in sweep.calls.items():
-            moments = (*MOMENTS, SAVING) if word.targets else MOMENTS
-            every = [(number, moment) for number in STATUSES for moment in moments]
-            some = every if is_all else draw.sample(every, min(len(every), count))
-            for number, moment in some:
-                sweep.tries(name, number, moment)
-            status, took = sweep.took.get(name, (None, 0))
-            print(f"{name}: undisturbed " + (f"{took:.1f} s, status {status}" if status is not None
-                                             else "it waits"), flush=True)
+        for each in numbered(drawn(sweep.calls, draw, count), first):
+            sweep.tries(*each)
     print(", ".join(f"{count} {what}" for what, count in sweep.counts.items())
           + f"; {len(sweep.wrong)} ended otherwise")
     sys.exit(1 if sweep.wrong else 0)
