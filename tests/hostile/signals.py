@@ -335,7 +335,7 @@ def main(words):
     first = taken_from(words)
     draw = random.Random(int(words[1]) if len(words) > 1 else 1)
     is_all = words[:1] == ["all"]
-    count = 0 if is_all else int(words[0]) if words else 1
+    count = 0 if is_all else int((words or "1")[0])
     with tempfile.TemporaryDirectory() as folder:
         sweep = Sweep(folder, 1 if is_all else FEWER)
         for each in numbered(drawn(sweep.calls, draw, count), first):
