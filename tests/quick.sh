@@ -119,8 +119,8 @@ tries tests/sources/definitions.sh
 tries tests/sources/contracts.py
 tries tests/pages/prose.py
 tries tests/script/completion.sh
-tries tests/script/carry.sh "$program"
-tries tests/program/joined.py
+tries tests/script/install.sh "$program"
+tries tests/program/by_definition.py
 tries tests/program/read_log.sh "$program"
 tries tests/program/limits.sh "$program"
 tries tests/program/threads.py "$program"

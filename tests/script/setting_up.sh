@@ -45,11 +45,11 @@ last=$(tail -n 1 "$work/out")
 
 what="one that fails, and one that skips a part"
 stub tests/script/calls.sh 'echo "the reason"; exit 1'
-stub tests/script/carry.sh 'echo "skipped: a part"'
+stub tests/script/install.sh 'echo "skipped: a part"'
 path=$work/all runs 1 bash "$tree/tests/quick.sh" "$work/program"
 has out "the reason"
 has out "failed: tests/script/calls.sh, status 1"
-has out "    tests/script/carry.sh: skipped: a part"
+has out "    tests/script/install.sh: skipped: a part"
 stub tests/script/calls.sh 'exit 0'
 
 what="nearly nothing can be tried"
@@ -73,7 +73,7 @@ what="a signal ends all, and what has passed is told"
 for script in "${scripts[@]}"; do
     stub "$script" "exit 0"
 done
-stub tests/script/carry.sh "trap '' TERM; : >'$work/begun'; sleep 613.$$"
+stub tests/script/install.sh "trap '' TERM; : >'$work/begun'; sleep 613.$$"
 PATH=$work/all bash "$tree/tests/quick.sh" "$work/program" >"$work/out" 2>"$work/err" &
 process=$!
 until [ -e "$work/begun" ] && [ "$(grep -c '^passed: ' "$work/out")" -eq $((${last%% *} - 1)) ]; do
@@ -84,7 +84,7 @@ kill -TERM "$process"
 status=0
 wait "$process" || status=$?
 [ "$status" -eq 143 ] || fails "status $status, and not 143"
-has out "not over: tests/script/carry.sh"
+has out "not over: tests/script/install.sh"
 [[ $(tail -n 1 "$work/out") =~ " passed, 0 failed, 0 skipped, 1 not over"$ ]] || fails "another last line"
 ! grep -lzxF "613.$$" /proc/[0-9]*/cmdline >"$work/out" 2>/dev/null || fails "a process is left"
 

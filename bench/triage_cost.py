@@ -2,9 +2,9 @@
 """What many logs cost: `triage` of a folder of logs, and `seeds` for each run, in processor time of
 all processes.
 
-bench/fleet.py [PROGRAM]. Rates are those of four processors that do nothing else: four over the
-time of one. A search also takes turns in one process, which can't be faster than its own time for a
-run."""
+bench/triage_cost.py [PROGRAM]. Rates are those of four processors that do nothing else: four over
+the time of one. A search also takes turns in one process, which can't be faster than its own time
+for a run."""
 import os
 import resource
 import subprocess

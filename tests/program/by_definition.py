@@ -1,7 +1,7 @@
 #!/usr/bin/env python3
 """Compares what the program prints of small recordings with what the definition does.
 
-tests/program/joined.py
+tests/program/by_definition.py
 
 The texts of crates/joint_laws/specs/Corpus.antt are proved to be those of the definition, and the
 cases 'joined as the definition has it' of crates/program_cases/stdout are what the program prints.
@@ -38,5 +38,6 @@ one = defined()
 other = printed()
 if not one or one != other:
     places = [place for place, pair in enumerate(zip(one, other)) if pair[0] != pair[1]]
-    sys.exit(f"tests/program/joined.py: {len(one)} and {len(other)} texts; not equal: {places}")
+    sys.exit(f"tests/program/by_definition.py: {len(one)} and {len(other)} texts; "
+             f"not equal: {places}")
 print(f"{len(one)} small recordings are joined by the program as by the definition")

@@ -2,7 +2,7 @@
 # Tries what `zelkuma install` lays under a folder and `zelkuma uninstall` takes away, and the package of it: from anywhere,
 # moved, linked to and installed by dpkg. The companions here only seem to be some. It takes some seconds.
 #
-# tests/script/carry.sh PROGRAM
+# tests/script/install.sh PROGRAM
 . "$(dirname "$0")/../asserts.sh"
 program=$(readlink -f -- "${1:?the words are PROGRAM}")
 elf=$top/examples/wild_store.elf
