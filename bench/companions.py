@@ -69,7 +69,7 @@ class Logs:
         if not os.path.exists(log):
             ran = subprocess.run([PROGRAM, "record", "--lean", "--seed", "1",
                                   *map(str, options), file, log, log],
-                                 stdout=subprocess.DEVNULL, stderr=subprocess.PIPE)
+                                 stdout=subprocess.DEVNULL, stderr=subprocess.PIPE, check=False)
             if ran.returncode not in HALTED:
                 sys.exit(f"{name}: {ran.stderr.decode()}")
         return log, file

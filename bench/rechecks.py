@@ -71,7 +71,7 @@ def row_of(name, tries, kinds):
     """The cells of a program; counts in `kinds` how each build is told."""
     order = order_of(name)
     cells = []
-    for build, change, level in BUILDS:
+    for _, change, level in BUILDS:
         is_mended = change == "mended"
         new = mended.built(name, change, level)
         told = said_by("recheck", order, new, "--tries", str(tries))["orders"][0]

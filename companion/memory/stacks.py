@@ -15,8 +15,8 @@ from .value import ABSOLUTE
 
 # Of a stack that has nothing else below: so many are its own for certain
 OWN_BYTES = 65536
-LARGEST = 8 << 20           # bytes: a stack pointer farther down is another stack's
-LARGEST_FRAME = 1 << 20     # bytes
+LARGEST = 8 << 20           # bytes, as Linux gives: a stack pointer farther down is another stack's
+LARGEST_FRAME = 1 << 20     # bytes: a larger step isn't one of a function that is called
 WRITABLE = 2                # a segment's flag
 
 

@@ -8,7 +8,8 @@ from typing import Callable, Dict, Iterator, List, NamedTuple, Optional, Tuple
 from ..call.text import counted
 from .marks import ATOMIC, NO_SYMBOL, STORE, Mark, Point, Points, fitting_count, on_line
 
-ALIKE = 0.6                 # lines whose texts are so near are taken for one that was changed
+# Lines whose texts are so near are taken for one that was changed: difflib's page calls them close
+ALIKE = 0.6
 MOST_TEXTS = 1000           # lines of a function that are compared
 
 

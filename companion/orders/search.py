@@ -16,7 +16,7 @@ from .windows import Window, shifted, sides_of, windows_of
 
 # A hart may do twice as many instructions as in the recording, and so many more
 MORE_COUNTS = 10000
-ENOUGH = 13                 # pieces; with more an earlier round is looked for
+ENOUGH = 13                 # pieces: twelve switches can be read; with more a round before is tried
 LEAST_LIMIT = 1000          # to which the limit of a run that hangs is lowered
 
 

@@ -134,9 +134,9 @@ def main(words):
                                                         if each[0].__name__ in words]:
             for few, many in zip(family(folder, size), family(folder, 2 * size)):
                 told = []
-                for words in few, many:
-                    ended = forked.companion(words, folder, run=counted(folder))
-                    assert ended.status in (0, 16), (words, ended)
+                for call in few, many:
+                    ended = forked.companion(call, folder, run=counted(folder))
+                    assert ended.status in (0, 16), (call, ended)
                     told.append(int(read(f"{folder}/count")))
                 exponent = math.log2(told[1] / told[0])
                 is_wrong = told[1] > (MOST_OF_PAIRS if (family, few[0]) == (harts, "race")

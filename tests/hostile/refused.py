@@ -105,7 +105,7 @@ class Ran:
         env = {"LD_PRELOAD": f"{folder}/refuse.so", "REFUSE": f"{kind}:{number}",
                "REFUSE_TOLD": f"{folder}/told"}
         ran = subprocess.run([PROGRAM, *words], input=SESSION, env=env, cwd=folder,
-                             timeout=60, capture_output=True)
+                             timeout=60, capture_output=True, check=False)
         self.status = ran.returncode
         self.out = ran.stdout
         self.err = ran.stderr.decode()
@@ -167,7 +167,7 @@ def is_agreed(folder, ran):
 
 def is_audited(folder):
     words = [PROGRAM, "audit", "LOG", "ELF", "BOOK", "--input", "IN"]
-    return subprocess.run(words, cwd=folder, capture_output=True).returncode == 0
+    return subprocess.run(words, cwd=folder, capture_output=True, check=False).returncode == 0
 
 
 def is_whole(folder, ran, plain, in_threads):
@@ -181,7 +181,7 @@ def is_whole(folder, ran, plain, in_threads):
         return is_audited(folder)
     words = [PROGRAM, "check", "LOG"]
     return (ran.files[0] == b"old"
-            or subprocess.run(words, cwd=folder, capture_output=True).returncode == 0)
+            or subprocess.run(words, cwd=folder, capture_output=True, check=False).returncode == 0)
 
 
 def cut_front(data):

@@ -168,7 +168,7 @@ class Call:
         command += ["/usr/bin/time", "-f", "%U %S %M", "-o", f"{folder}/took", PROGRAM, *words]
         with open(os.devnull, "wb") as out:
             self.status = subprocess.run(command, stdin=subprocess.DEVNULL, stdout=out,
-                                         stderr=out, cwd=folder).returncode
+                                         stderr=out, cwd=folder, check=False).returncode
         with open(f"{folder}/took", encoding="ascii") as file:
             user, system, size = file.read().split("\n")[-2].split()
         self.seconds = float(user) + float(system)

@@ -124,7 +124,8 @@ def printed_by(commands, program, room):
                      "(exit $__status)\n" for it in commands)
     new = {"PATH": NEW_PATH, "HOME": room, "LANG": "C.UTF-8"}
     ran = subprocess.run(["bash", "-c", script], cwd=f"{room}/top", stdin=subprocess.DEVNULL,
-                         stdout=subprocess.PIPE, stderr=subprocess.STDOUT, env=new, timeout=7200)
+                         stdout=subprocess.PIPE, stderr=subprocess.STDOUT, env=new, timeout=7200,
+                         check=False)
     said = ran.stdout.decode(errors="replace").replace(f"{room}/tmp/", "/tmp/")
     return said.split(f"{END}\n")[:-1]
 

@@ -32,7 +32,7 @@ def built(test: Test, folder: str, level: str, *options: str) -> str:
         done = subprocess.run(["gcc", "-g", "-w", level, *options, *test.options,
                                *(f"-I{os.path.join(folder, part)}" for part in INCLUDED), "-o",
                                name, test.source, "-lm", "-lpthread"], stdout=subprocess.DEVNULL,
-                              stderr=subprocess.DEVNULL)
+                              stderr=subprocess.DEVNULL, check=False)
         if done.returncode:
             return ""
     return name
@@ -42,7 +42,7 @@ def said_by(*words: str, settings: str = "") -> str:
     try:
         done = subprocess.run(words, stdin=subprocess.DEVNULL, stdout=subprocess.DEVNULL,
                               stderr=subprocess.PIPE, timeout=PATIENCE_S,
-                              env=dict(os.environ, ASAN_OPTIONS=settings))
+                              env=dict(os.environ, ASAN_OPTIONS=settings), check=False)
     except subprocess.TimeoutExpired as late:
         return (late.stderr or b"").decode("latin-1")
     return done.stderr.decode("latin-1")

@@ -129,7 +129,7 @@ def built(test: Test, folder: str, level: str) -> str:
              "-static", "-nostartfiles", "-T",
              os.path.join(TOP, "examples", "picolibc", "program.ld"), "-Wl,--build-id=none", "-z",
              "max-page-size=4096", "-march=rv32ima", "-o", elf, *parts, test.source],
-            stderr=subprocess.DEVNULL, stdout=subprocess.DEVNULL)
+            stderr=subprocess.DEVNULL, stdout=subprocess.DEVNULL, check=False)
         if done.returncode:
             return ""
     return elf
@@ -151,7 +151,8 @@ def end_of(test: Test, kinds: Sequence[str], lines: Iterable[int]) -> str:
 
 def companion(*words: str) -> Dict[str, Any]:
     done = subprocess.run([sys.executable, os.path.join(TOP, "companion"), *words, "--json"],
-                          stdout=subprocess.PIPE, stderr=subprocess.PIPE, timeout=PATIENCE_S)
+                          stdout=subprocess.PIPE, stderr=subprocess.PIPE, timeout=PATIENCE_S,
+                          check=False)
     answer: Dict[str, Any] = (json.loads(done.stdout) if done.returncode == 0
                               else {"error": done.stderr.decode().strip()})
     return answer
@@ -204,7 +205,7 @@ def tried(test: Test, lines: frozenset[int], folder: str, elf: str) -> Dict[str,
     log = log_of(folder, elf)
     subprocess.run([PROGRAM, "record", "--format", "2", *test.recorded, elf, log,
                     log[:-4] + ".book"], stdout=subprocess.DEVNULL,
-                   stderr=subprocess.DEVNULL, timeout=PATIENCE_S)
+                   stderr=subprocess.DEVNULL, timeout=PATIENCE_S, check=False)
     if not os.path.exists(log):
         return {"memory": "isn't recorded"}
     found = by_memory(test, lines, log, elf)

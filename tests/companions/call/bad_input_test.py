@@ -44,7 +44,7 @@ class BadInputTest(case.Case):
         subprocess.run([PROGRAM, "record", "--seed", "1", "--log-size", "16384",
                         "--interval", "10000000", "--sets", "1", "--ways", "1", "--line", "1",
                         "--limit", "60000", hang, none, path("none.book")],
-                       stdout=subprocess.PIPE, stderr=subprocess.PIPE)
+                       stdout=subprocess.PIPE, stderr=subprocess.PIPE, check=False)
         self.refused("why: a log that kept no interval", 14, "passed its --log-size 16384",
                      "why", none, hang)
         self.refused("bucket: a log that kept no interval", 14, "holds no", "bucket", none, hang)
@@ -105,7 +105,7 @@ exit $status
         it refuses, `why` refuses."""
         subprocess.run([PROGRAM, "record", "--seed", "1", "--harts", "2", "--limit", "40",
                         example("counter"), path("two.log"), path("two.book")],
-                       stdout=subprocess.PIPE, stderr=subprocess.PIPE)
+                       stdout=subprocess.PIPE, stderr=subprocess.PIPE, check=False)
         good = content(path("two.log"))
         draw = random.Random(7)
         seen = {}

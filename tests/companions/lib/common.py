@@ -58,7 +58,7 @@ def record(name, elf, *words, schedule=""):
     log = path(name + ".log")
     done = subprocess.run([PROGRAM, "record", "--format", "2"]
                           + list(words) + [elf, log, path(name + ".book")], stdout=subprocess.PIPE,
-                          stderr=subprocess.PIPE, env=scheduled(schedule))
+                          stderr=subprocess.PIPE, env=scheduled(schedule), check=False)
     if not os.path.exists(log):
         sys.exit("no recording of %s: %s" % (elf, done.stderr.decode()))
     return log
@@ -137,7 +137,7 @@ def example(name):
 def output(*words):
     """What a command of the program prints."""
     return subprocess.run([PROGRAM] + list(words), stdout=subprocess.PIPE,
-                          stderr=subprocess.DEVNULL).stdout
+                          stderr=subprocess.DEVNULL, check=False).stdout
 
 
 def rows(log, elf):

@@ -17,7 +17,8 @@ def stuck(elf):
     run had."""
     log = common.path("stuck.log")
     subprocess.run([common.PROGRAM, "record", "--seed", "1", "--harts", "2", elf, log,
-                    common.path("book")], stdout=subprocess.DEVNULL, stderr=subprocess.DEVNULL)
+                    common.path("book")], stdout=subprocess.DEVNULL, stderr=subprocess.DEVNULL,
+                   check=False)
     data = bytearray(common.content(log))
     at = RECORDS
     while data[at] != EDGE:

@@ -48,7 +48,7 @@ class DwarfTest(case.Case):
             wanted = list(questions(CheckedProgram(Elf(elf))))
             words = [word for expression, _ in wanted for word in ("-ex", f"print/d {expression}")]
             said = subprocess.run([GDB, "-batch", "-nx", *words, elf], stdout=subprocess.PIPE,
-                                  stderr=subprocess.STDOUT).stdout.decode()
+                                  stderr=subprocess.STDOUT, check=False).stdout.decode()
             told = [int(value) for value in re.findall(r"^\$\d+ = (\d+)$", said, re.M)]
             self.assertEqual(told, [value for _, value in wanted], elf)
             asked += len(told)
@@ -63,7 +63,7 @@ class DwarfTest(case.Case):
             for first, entry in program.entries.items():
                 said = subprocess.run([GDB, "-batch", "-nx", "-ex", f"info scope *{first:#x}", elf],
                                       stdout=subprocess.PIPE,
-                                      stderr=subprocess.STDOUT).stdout.decode()
+                                      stderr=subprocess.STDOUT, check=False).stdout.decode()
                 told = dict(re.findall(r"Symbol (\w+) is multi-location:\n(.*?)^, length",
                                        said, re.M | re.S))
                 for each in (each for each in entry.below if program.dwarf.name_of(each) in told):

@@ -37,7 +37,7 @@ def passes(folder, mutant):
     done = subprocess.run([sys.executable, "-m", "unittest",
                            f"memory_test.MemoryTest.{mutant['test']}"], env=environment,
                           cwd=os.path.join(folder, "tests", "companions", "memory"),
-                          stdout=subprocess.PIPE, stderr=subprocess.STDOUT)
+                          stdout=subprocess.PIPE, stderr=subprocess.STDOUT, check=False)
     return done.returncode == 0, done.stdout.decode()
 
 

@@ -210,7 +210,7 @@ class RecheckTest(case.Case):
     @needs_compiler
     def test_a_byte_of_the_output(self):
         """counter.c loses counts of `plain` if a hart stops between its load and its store."""
-        log, elf, book = mended.recorded("counter")
+        log, elf, _ = mended.recorded("counter")
         writes = json.loads(self.says("output", "--json", log, elf))["writes"][0]["bytes"]
         place = bytes(writes).index(b"plain ") + len("plain ")
         order = self.order_of("counter", "--output", f"0:{place}")

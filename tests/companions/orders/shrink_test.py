@@ -150,7 +150,7 @@ class ShrinkTest(case.Case):
         before = json.loads(self.says("output", "--json", recording[0],
                                       recording[1]))["writes"][0]["bytes"]
         place = bytes(before).index(b"plain ") + len("plain ")
-        said, log, book = self.shrunk(recording, "byte", "--output", f"0:{place}")
+        _, log, book = self.shrunk(recording, "byte", "--output", f"0:{place}")
         after = json.loads(self.says("output", "--json", log, recording[1]))["writes"][0]["bytes"]
         self.assertEqual((before[place], after[place]), (ord("1"), ord("1")))
         self.assertLessEqual(len(pieces_of(content(book))) - 1, MOST_SWITCHES)

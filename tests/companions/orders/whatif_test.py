@@ -61,7 +61,7 @@ class WhatIfTest(case.Case):
         loop = [lui(8, DATA), addi(T0, 0, 5), addi(T1, T1, 3), store(T1, 8), load(T1, 8),
                 addi(T0, T0, -1), branch_unless_equal(T0, 0, -16), *END]
         log, elf, book = self.small(loop)
-        rows = [row for row in rows_of(log, elf)]
+        rows = list(rows_of(log, elf))
         for index, number, action, code in ((2, 2, ("--set", "100"), 109), (3, 3, ("--skip",), 12),
                                             (4, 5, ("--set", "-1"), 0xffffffff),
                                             (6, 2, ("--turn",), 6), (5, 3, ("--set", "9"), 36),

@@ -105,7 +105,7 @@ class AnswersTest(case.Case):
         self.assertEqual((status, json.loads(said)["seed"], err.count("\n")), (22, None, 1))
 
     def test_a_refusal_is_no_object(self):
-        log, elf = self.crash("use_after_free")
+        log, _ = self.crash("use_after_free")
         for word in ("why", "race", "bucket"):
             self.refuses(8, word, log, self.elf("sort"), "--json")
 

@@ -53,7 +53,7 @@ class NamesTest(case.Case):
                    status == 4 and err == "zelkuma: use_after_free.elf has no nowhere\n", err)
 
     def test_without_tool(self):
-        log, elf = self.crash("use_after_free")
+        _, elf = self.crash("use_after_free")
         row = b"0 0 00010074 00002197 auipc gp,0x2 | gp=00012074\n"
         status, text, err = companion("names", elf, given=row, environment={"PATH": "/nowhere"})
         self.check("without addr2line there are symbols, and that is said", "no addr2line" in err

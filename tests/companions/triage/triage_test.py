@@ -37,7 +37,7 @@ class Fleet:
     def __init__(self, name):
         self.logs = path(name + "/logs")
         self.elfs = path(name + "/elfs")
-        self.cache = dict(XDG_CACHE_HOME=path(name + "/cache"))
+        self.cache = {"XDG_CACHE_HOME": path(name + "/cache")}
         self.names = []
         os.makedirs(self.elfs)
 

@@ -217,7 +217,7 @@ class ViewTest(case.Case):
         log = common.path("empty.log")
         subprocess.run([common.PROGRAM, "record", "--seed", "1", "--log-size", "16384",
                         "--limit", "3000000", self.elf("sort"), log, common.path("book")],
-                       stderr=subprocess.DEVNULL)
+                       stderr=subprocess.DEVNULL, check=False)
         self.assertEqual(self.program("list", log), "")
         self.assertIn("no row", self.refuses(14, "view", log, self.elf("sort")))
 

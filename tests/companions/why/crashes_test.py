@@ -38,7 +38,7 @@ def compiler():
     """The version of the compiler, or no."""
     try:
         return subprocess.run(["riscv64-unknown-elf-gcc", "-dumpfullversion"],
-                              stdout=subprocess.PIPE).stdout.decode().strip()
+                              stdout=subprocess.PIPE, check=False).stdout.decode().strip()
     except OSError:
         return "no"
 
@@ -60,7 +60,7 @@ def tried(program):
     log = path(program.name + ".log")
     done = subprocess.run([PROGRAM, "record", "--format", "2"] + program.options
                           + [program.elf, log, path(program.name + ".book")],
-                          stdout=subprocess.PIPE, stderr=subprocess.PIPE)
+                          stdout=subprocess.PIPE, stderr=subprocess.PIPE, check=False)
     wrong = ["--output", program.wrong] if program.wrong else []
     status, text, err = companion("why", log, program.elf, "--more", *wrong)
     return Tried(done.returncode, status, err, rank_of(program.guilty, text))
