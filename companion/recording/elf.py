@@ -31,7 +31,8 @@ LARGEST_FILE = 1 << 29
 
 
 class Segment(NamedTuple):
-    """A loaded segment: `body` is the bytes of the file, and `size` what it takes in memory."""
+    """The words that a loaded segment touches: `body` is the bytes of the file, and `size` what it
+    takes in memory. What else is in its first and its last word is 0, and as writable as it."""
     address: int
     size: int
     flags: int
@@ -87,9 +88,13 @@ class Elf:
         for i in range(min(count, MOST_SEGMENTS)):
             kind, offset, address, _, in_file, in_memory, flags, _ = struct.unpack_from(
                 "<8I", self.data, first + 32 * i)
-            if kind == LOADED:
-                self.parts.append(Segment(address, in_memory, flags,
-                                          view[offset:offset + min(in_file, in_memory)]))
+            if kind == LOADED and in_memory:
+                body = view[offset:offset + min(in_file, in_memory)]
+                if address % 4:
+                    body = memoryview(bytes(address % 4) + body)
+                begin = address & ~3
+                end = (address + in_memory + 3) & ~3
+                self.parts.append(Segment(begin, end - begin, flags, body))
         self.parts.sort(key=lambda part: part.address)
 
     def read_symbols(self) -> None:
