@@ -14,7 +14,8 @@ from .calls import Calls
 from .chunks import occurrences
 from .instruction import A0, A1, A7, AMO, CALL, JUMP, LOAD, STORE, Instruction
 from .log import FAILED, LONGEST_CALL, READ_CALL
-from .rows import CHANGED, FAULTS, KEEPS, LOADS, OFFSET, STORES, UNSTORED, FaultRow, ReadCall, Rows
+from .memory import words_of
+from .rows import FAULTS, KEEPS, LOADS, OFFSET, STORES, FaultRow, ReadCall, Rows
 from .writers import Writers
 
 # What a row does beside LOADS and STORES: it writes a register; it is a call, a return or a jump to
@@ -30,6 +31,7 @@ FAULT = b" | fault "
 KEY = 17  # letters of an address and a word
 ZERO = b"0" * 8  # the value of what writes no register
 NOTHING = 0, -1             # in place of the row that stored a word last, and its value
+NEVER = sys.maxsize         # in place of the row of the next `read` call
 
 
 def of_shapes(bits: int) -> bytes:
@@ -115,7 +117,10 @@ class Codes(Dict[bytes, int]):
 
 class Reader:
     """start   the number of the chunk's first row
-    latest  of the address of a word the row that stored it last, and its value"""
+    latest  of the address of a word the row that stored it last, and its value
+    partly  of a word whose latest bytes a `read` call brought in part, of each byte the row that
+            stored it, or 0
+    filled  how many of the `read` calls have been followed"""
 
     def __init__(self, rows: Rows, writers: Writers, calls: Calls) -> None:
         self.rows = rows
@@ -128,6 +133,8 @@ class Reader:
         self.numbers = {b"%-2d" % hart: hart for hart in self.harts}
         self.hart: Optional[HartState] = None       # whose row was read last
         self.latest: dict[int, tuple[int, int]] = {}
+        self.partly: dict[int, tuple[int, ...]] = {}
+        self.filled = 0
         self.start = 0
 
     def begin_behind(self, registers: Mapping[int, Sequence[int]]) -> None:
@@ -315,19 +322,23 @@ class Reader:
         flags = self.rows.flags
         second = self.writers.second
         words = self.writers.word
+        partly = self.partly
+        fill = self.follow_calls(0)
         for n, kind, address, value in zip(which, kinds, told[::2], told[1::2]):
+            if n > fill:
+                fill = self.follow_calls(n)
             word = address & WORD
             flag = address & OFFSET
             writer, held = latest.get(word, NOTHING)
             if kind & LOADS:
                 if held != value:
-                    if held >= 0:               # changed, and no row did it: a `read` call
-                        flag |= CHANGED
+                    if held >= 0:               # changed by a row that the log lost
+                        partly.pop(word, None)
                     writer = 0
                     held = value
                     latest[word] = writer, held
-                if not writer:
-                    flag |= UNSTORED
+                if not writer and word in partly:
+                    self.writers.partly[n] = partly[word]
                 if kind == BOTH:
                     value = next(stored)
             if kind > STORES and held == value and (kind == BOTH or not flags[second[n]] & LOADS):
@@ -337,7 +348,27 @@ class Reader:
             if flag:
                 flags[n] |= flag
             if kind != LOADS:
+                if partly and word in partly:
+                    self.writers.store_over(n, partly.pop(word))
                 latest[word] = n, value
+
+    def follow_calls(self, before: int) -> int:
+        """What `read` calls before a row brought no row stored. Gives the row of the next call."""
+        reads = self.rows.reads
+        while self.filled < len(reads) and reads[self.filled].row < before:
+            call = reads[self.filled]
+            self.filled += 1
+            end = call.address + call.size
+            for word in words_of(call.address, call.size):
+                writer, _ = self.latest.pop(word, NOTHING)
+                lanes = self.partly.pop(word, None)
+                if word < call.address or end < word + 4:
+                    lanes = lanes or self.writers.lanes_of(writer)
+                    kept = tuple(0 if call.address <= word + i < end else lanes[i]
+                                 for i in range(4))
+                    if any(kept):
+                        self.partly[word] = kept
+        return reads[self.filled].row if self.filled < len(reads) else NEVER
 
 
 def numbers(told: Iterable[bytes]) -> array[int]:

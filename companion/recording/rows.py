@@ -11,14 +11,11 @@ from typing import NamedTuple, Optional
 from .instruction import LOAD, NAMES, SP, Instruction
 from .log import Log
 
-# A row's flags. OFFSET: the byte of its word. UNSTORED: no row stored what it loads. CHANGED: a
-# `read` call did since the last row. KEEPS: it stores what the word holds, as a lock's spinning
-# does.
+# A row's flags. OFFSET: the byte of its word. KEEPS: it stores what the word holds, as a lock's
+# spinning does.
 OFFSET = 3
 LOADS = 4
 STORES = 8
-UNSTORED = 16
-CHANGED = 32
 FAULTS = 64
 KEEPS = 128
 

@@ -26,6 +26,8 @@ class Stores(NamedTuple):
 class Writers:
     """first, second   of each row the rows that wrote its first and second register
     word   the row that stored the word that it accesses
+    partly {a load whose word a `read` call brought in part: of each byte the row that stored it, or
+           0}
     pairs  {load's code << 32 | 1 + store's code, 0 if there is none: how many rows}"""
 
     def __init__(self, rows: Rows) -> None:
@@ -40,6 +42,7 @@ class Writers:
         self.kept: dict[int, int] = {}
         # {a store: of each byte of its word the latest store up to it}
         self.lanes: dict[int, tuple[int, ...]] = {}
+        self.partly: dict[int, tuple[int, ...]] = {}
         # {a load's code: {a store's code: how many rows}}
         self.stores_of: dict[int, dict[int, int]] = {}
 
@@ -107,10 +110,10 @@ class Writers:
         need = self.rows.mask(load)
         if latest and not need & ~self.rows.mask(latest):
             return Stores([latest], 0)
-        lanes = [row for lane, row in enumerate(self.lanes_of(latest)) if need >> lane & 1]
-        rest = sum(1 << lane for lane, row in enumerate(self.lanes_of(latest))
-                   if need >> lane & 1 and not row)
-        return Stores(sorted({row for row in lanes if row}, reverse=True), rest)
+        lanes = self.partly.get(load) or self.lanes_of(latest)
+        needed = [(lane, row) for lane, row in enumerate(lanes) if need >> lane & 1]
+        return Stores(sorted({row for _, row in needed if row}, reverse=True),
+                      sum(1 << lane for lane, row in needed if not row))
 
     def store(self, load: int) -> int:
         """The latest of them, or 0."""
@@ -125,11 +128,18 @@ class Writers:
             store = self.word[store]
         found = self.lanes.get(store, (0, 0, 0, 0))
         for at, row in enumerate(reversed(passed), 1):
-            mask = 0 if self.rows.flags[row] & KEEPS else self.rows.mask(row)
-            found = tuple(row if mask >> lane & 1 else before for lane, before in enumerate(found))
+            found = self.lanes_behind(row, found)
             if at % KEPT == 0 or at == len(passed):
                 self.lanes[row] = found
         return found
+
+    def lanes_behind(self, store: int, lanes: tuple[int, ...]) -> tuple[int, ...]:
+        mask = 0 if self.rows.flags[store] & KEEPS else self.rows.mask(store)
+        return tuple(store if mask >> lane & 1 else before for lane, before in enumerate(lanes))
+
+    def store_over(self, store: int, lanes: tuple[int, ...]) -> None:
+        """A store to a word that a `read` call brought in part."""
+        self.lanes[store] = self.lanes_behind(store, lanes)
 
     def gives_all(self, store: int) -> bool:
         """Whether a row gave each byte of its word its value."""
@@ -138,8 +148,12 @@ class Writers:
     def store_before(self, address: int, before: int) -> int:
         """The row that gave a byte its value, as it was before a row, or 0."""
         n = self.rows.last_access(address & ~3, before)
+        if any(n < call.row < before and call.address <= address < call.address + call.size
+               for call in self.rows.reads):
+            return 0
         store = n if self.rows.flags[n] & STORES else self.word[n]
-        return self.lanes_of(store)[address & 3]
+        lanes = self.partly.get(n) or self.lanes_of(store)
+        return lanes[address & 3]
 
     def beside(self, load: int) -> list[int]:
         """The stores by which the same instruction got other words, of the nearest word on each

@@ -113,7 +113,7 @@ class History:
         self.most = most
         self.cost: dict[int, int] = {}
         self.copied: dict[int, int] = {}        # {load: the first copied load behind it}
-        self.again: dict[tuple[int, int, int], tuple[int, list[int], bool]] = {}
+        self.again: dict[tuple[object, ...], tuple[int, list[int], bool]] = {}
         self.roots: dict[int, int] = {}
         self.parent: dict[int, Step] = {}
         self.far: dict[Pair, int] = {}
@@ -240,7 +240,7 @@ class History:
         its bytes. Of a store far back it is kept, since the rounds of a loop get the same again."""
         writers = self.writers
         word = self.writers.word[n]
-        key = self.rows.code[n], word, self.rows.flags[n]
+        key = self.rows.code[n], word, self.rows.flags[n], writers.partly.get(n)
         if key in self.again:
             first, found, is_whole = self.again[key]
             return first or n, found, is_whole
