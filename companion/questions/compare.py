@@ -12,7 +12,9 @@ from ..call.text import counted, number
 from ..recording.answers import place_of, put_found
 from ..recording.chunks import row_at, rows_between
 from ..recording.cut import PC, cut, told_in
+from ..recording.inputs import Numbers, input_text
 from ..recording.instruction import NAMES, Instruction
+from ..recording.log import SystemCall
 from ..recording.opened import HIGHEST
 from .reading import Asked, asked_of
 from .types import words_type
@@ -35,9 +37,8 @@ MOST_ROWS = 15000000    # of each run: 4 bytes each in arrays
 LOOKED_BACK = 4000      # rows that both runs did, back from where they part
 READ_BACK = 500         # rows before one that are read with it: the next that is asked for is there
 MOST_FRAMES = 3         # callers in a line
-# How what a row did begins
+# How what a load did begins
 LOADED = "load "
-STORED = "store "
 
 
 @dataclass(frozen=True)
@@ -67,6 +68,15 @@ class ComparedRun:
         end = self.asked.log.ends[hart]
         return f"{end.reason} {end.value:08x} at count {number(end.count)}"
 
+    def brought(self, call: Optional[SystemCall], loaded: Variable) -> Numbers:
+        """The bytes of the input that a `read` call put into what was loaded."""
+        if not call:
+            return []
+        first = max(call.address, loaded.address)
+        end = min(call.address + call.size, loaded.end)
+        return self.asked.log.input_bytes(call.hart, call.count, first - call.address,
+                                          end - call.address)
+
     def row(self, hart: int, count: int) -> Optional[ComparedRow]:
         """A row; those before it and the next one are read with it."""
         rows = self.known.setdefault(hart, {})
@@ -84,12 +94,14 @@ class ComparedRun:
 class Parting:
     """The branch at which a hart went another way: its last row in each run that is the same, and
     the first that isn't, if it has one. `loads` are the loads behind it, and `givers` the rows that
-    had stored what they got. `place` is that of the row in the order of BAD."""
+    had stored what they got; `inputs` are bytes of the input among it, if those were `read` calls.
+    `place` is that of the row in the order of BAD."""
     lane: Lane
     same: list[ComparedRow]
     other: list[Optional[ComparedRow]]
     loads: list[Optional[ComparedRow]]
     givers: list[str] = field(default_factory=lambda: ["", ""])
+    inputs: list[Numbers] = field(default_factory=lambda: [[], []])
     place: int = 0
 
     @property
@@ -193,6 +205,7 @@ class StoreSearch:
     which a hart parted."""
 
     def __init__(self, run: ComparedRun, found: Parting, at: int) -> None:
+        self.run = run
         self.found = found
         self.at = at
         load = found.loads[at]
@@ -207,6 +220,7 @@ class StoreSearch:
             end = text.find(self.load)
             for change in self.words.changes(text if end < 0 else text[:end]):
                 self.found.givers[self.at] = row_at(text, change.place).decode("ascii", "replace")
+                self.found.inputs[self.at] = self.run.brought(change.fill, self.words.variable)
             self.words = None if end >= 0 else self.words
         end = text.find(self.branch)
         self.found.place = rows + text.count(b"\n", 0, max(0, end))
@@ -253,21 +267,21 @@ def parting_lines(found: Parting, runs: list[ComparedRun]) -> list[str]:
         lines += compared_lines(title, row, run, found)
     if found.loads[0]:
         lines.append(f"  it had loaded, in {places.chain([found.loads[0].code.pc], MOST_FRAMES)}")
-    for title, load, giver in zip(("GOOD", "BAD"), found.loads, found.givers):
+    for title, load, giver, brought in zip(("GOOD", "BAD"), found.loads, found.givers,
+                                           found.inputs):
         if load:
             lines.append(f"    {title:<5} {load.text}")
-            lines.append(f"          stored by {giver_text(giver, runs[0])}")
+            lines.append(f"          stored by {giver_text(giver, brought, runs[0])}")
     return lines
 
 
-def giver_text(row: str, run: ComparedRun) -> str:
+def giver_text(row: str, brought: Numbers, run: ComparedRun) -> str:
     if not row:
         return "no row: it is from the beginning"
     hart, count, key, _ = cut(row.encode())
     place = run.asked.places.chain([int(key[PC], 16)], MOST_FRAMES)
-    did = told_in(row)[-1]
-    return (f"{hart.decode()}:{count} in {place}: "
-            f"{did if did.startswith(STORED) else 'a read call, ' + did}")
+    did = f"a read call, {input_text(brought)}" if brought else told_in(row)[-1]
+    return f"{hart.decode()}:{count} in {place}: {did}"
 
 
 def ends(title: str, run: ComparedRun) -> list[str]:
@@ -321,7 +335,8 @@ def parting_answer(found: Parting, runs: list[ComparedRun]) -> dict[str, Any]:
                 "place": place_of(runs[0].asked.places, row.code.pc)}
     return {"hart": found.hart, "same": list(map(point, found.same)),
             "other": list(map(point, found.other)), "loads": list(map(point, found.loads)),
-            "givers": found.givers, "waits": found.lane.waits}
+            "givers": found.givers, "inputs": [list(each) for each in found.inputs],
+            "waits": found.lane.waits}
 
 
 def check_logs(runs: Iterable[Asked]) -> None:

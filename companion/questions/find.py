@@ -13,6 +13,7 @@ from ..recording.answers import LONGEST, place_of, put_found
 from ..recording.chunks import rows_with
 from ..recording.cut import PC, cut
 from ..recording.elf import Elf
+from ..recording.inputs import InputInMemory, Numbers, input_text
 from .reading import Asked, asked_of, read
 from .variables import ADDRESS, OFFSET, not_found, symbol_of, variable_of
 
@@ -24,26 +25,27 @@ HELP = Help(
 VALUE is a number, hexadecimal if it has eight digits or begins with 0x, or an address: that of a
 symbol (`arena`, `arena+56`) or of a variable's part (`&orders[3]`). Of each place it tells the
 first and the last time, how often, and what it did with the value: put it into a register, loaded
-it or stored it.""",
+it or stored it. Of a word that a `read` call brought it tells which bytes of the input that is.""",
     more="A word that holds the value while no row touches it isn't seen.")
 # With the value are told by place, which takes memory; of the others only the number is told
 MOST_ROWS = 2000000
 TOLD = 100                  # places: some screens
 MOST_FRAMES = 3             # callers in a line
 MOST_WORDS = 3              # of a place in a line
-VERBS = {b"load ": "loads it from", b"store": "stores it to"}
+LOADED = b"load "
+VERBS = {LOADED: "loads it from", b"store": "stores it to"}
 
 
 @dataclass
 class PlaceGroup:
     """The rows of one place that do the same with the value. `words` are those of memory, of which
-    the first are kept."""
+    the first are kept, each with the bytes of the input that it has."""
     pc: int
     did: str
     first: str
     last: str = ""
     times: int = 0
-    words: list[int] = field(default_factory=list)
+    words: dict[int, Numbers] = field(default_factory=dict)
 
 
 class FoundRows:
@@ -57,25 +59,27 @@ class FoundRows:
         self.pattern = re.compile(self.needle)
         self.groups: dict[tuple[bytes, str], PlaceGroup] = {}
         self.total = self.told = 0
+        self.input = InputInMemory(asked.log)
 
     def take(self, text: bytes) -> None:
         if self.told >= MOST_ROWS:
             self.total += text.count(self.needle)
             return
-        for row in rows_with(text, self.pattern):
-            self.take_row(row)
+        self.input.take(text)
+        for place, row in rows_with(text, self.pattern):
+            self.take_row(place, row)
 
-    def take_row(self, row: bytes) -> None:
+    def take_row(self, place: int, row: bytes) -> None:
         self.told += 1
         self.total += 1
         hart, count, key, told = cut(row)
         # Memory before registers: a load puts the value there by itself
         for part in reversed(told):
             if part.endswith(self.needle):
-                self.occurs(f"{hart.decode()}:{count}", key[PC], part)
+                self.occurs(place, f"{hart.decode()}:{count}", key[PC], part)
                 break
 
-    def occurs(self, when: str, pc: bytes, part: bytes) -> None:
+    def occurs(self, place: int, when: str, pc: bytes, part: bytes) -> None:
         verb = VERBS.get(part[:5], "")
         did = verb or f"puts it into {part.partition(b'=')[0].decode()}"
         group = self.groups.get((pc, did))
@@ -86,7 +90,9 @@ class FoundRows:
         if verb and len(group.words) < MOST_WORDS:
             word = int(part[-17:-9], 16) & ~3
             if word not in group.words:
-                group.words.append(word)
+                self.input.go_to(place)
+                is_load = part.startswith(LOADED)
+                group.words[word] = self.input.numbers(word) if is_load else []
 
     def in_file(self) -> list[int]:
         """The words of the program's file that are the value, some of them."""
@@ -122,7 +128,8 @@ def word_text(asked: Asked, word: int) -> str:
 
 
 def group_line(group: PlaceGroup, asked: Asked) -> list[str]:
-    words = ", ".join(word_text(asked, word) for word in group.words)
+    words = ", ".join(word_text(asked, word) + (f" ({input_text(numbers)})" if numbers else "")
+                      for word, numbers in group.words.items())
     more = ", .." if len(group.words) == MOST_WORDS else ""
     return [group.first, group.last, number(group.times), " ".join(filter(None, (group.did, words)))
             + more, asked.places.chain([group.pc], MOST_FRAMES)]
@@ -153,7 +160,8 @@ def find_answer(found: FoundRows) -> dict[str, Any]:
             "left_out": asked.left_out(), "in_file": [f"{word:08x}" for word in found.in_file()],
             "places": [{"place": place_of(asked.places, group.pc), "did": group.did,
                         "first": group.first, "last": group.last, "times": group.times,
-                        "words": [f"{word:08x}" for word in group.words]}
+                        "words": [f"{word:08x}" for word in group.words],
+                        "inputs": list(group.words.values())}
                        for group in list(found.groups.values())[:LONGEST]]}
 
 

@@ -12,6 +12,7 @@ from ..call.text import columns, counted
 from ..recording.answers import place_of, put_found
 from ..recording.chunks import row_at
 from ..recording.cut import cut, hart_of
+from ..recording.inputs import Numbers, input_text
 from ..recording.instruction import STORE, Instruction
 from ..recording.log import SystemCall
 from ..recording.memory import bytes_of, words_of
@@ -25,7 +26,7 @@ HELP = Help(
     "history LOG ELF NAME [--names ELF] [--changes] [--last N] [--rows N] [--json]",
     "each store to a variable, with its values and callers",
     """Lists each store to a variable: hart and count, the value before and after it, its place and
-the calls over it; of `read` calls how much they put there.
+the calls over it. Of `read` calls it lists how much they put there, and which bytes of the input.
 
 NAME is a variable or a part of it (`orders[3].amount`), a symbol, a symbol and an offset
 (`arena+56`), or an address; behind the last two a length can stand (`00011b60:4`).""",
@@ -36,6 +37,15 @@ TOLD = 100              # the last stores; --last tells more
 MOST_TOLD = 1000000     # each is held in memory
 MOST_FRAMES = 4         # callers in a line
 LARGEST = 8             # bytes of a C scalar: larger variables are told by their parts
+
+
+class Brought(NamedTuple):
+    """How many bytes a `read` call moved, and which of the input came to the variable."""
+    moved: int
+    here: Numbers
+
+    def text(self) -> str:
+        return f"{counted(self.moved, 'byte')} of a read call, here {input_text(self.here)}"
 
 
 @dataclass(frozen=True)
@@ -49,7 +59,11 @@ class ToldStore:
     part: str
     old: str
     new: str
-    fill: Optional[SystemCall]
+    fill: Optional[Brought]
+
+    @property
+    def gave(self) -> str:
+        return self.fill.text() if self.fill else self.new
 
 
 class Kept(NamedTuple):
@@ -110,12 +124,17 @@ class VariableHistory:
             end = first + code.width
         first = max(first, base)
         end = min(end, self.variable.end)
+        fill = self.brought(change.fill, first, end) if change.fill else None
         part = self.part(first - base, end - base)
         old, new = (value_text(part, data, self.asked.name_of)
                     for data in change.values(base + part.at, part.size))
         return ToldStore(int(hart), count,
                          row.decode("ascii", "replace"), [code.pc, *call_places(top, MOST_FRAMES)],
-                         part.path, old, new, change.fill)
+                         part.path, old, new, fill)
+
+    def brought(self, call: SystemCall, first: int, end: int) -> Brought:
+        return Brought(call.size, self.asked.log.input_bytes(
+            call.hart, call.count, first - call.address, end - call.address))
 
     def part(self, first: int, end: int) -> Leaf:
         """The part of the variable that has these bytes; of several the bytes as they are, by the
@@ -128,8 +147,7 @@ class VariableHistory:
 
 
 def entry_line(entry: ToldStore, asked: Asked, name: str) -> list[str]:
-    new = f"{counted(entry.fill.size, 'byte')} of a read call" if entry.fill else entry.new
-    return [f"{entry.hart}:{entry.count}", name + entry.part, f"{entry.old} -> {new}",
+    return [f"{entry.hart}:{entry.count}", name + entry.part, f"{entry.old} -> {entry.gave}",
             asked.places.chain(entry.pcs, MOST_FRAMES)]
 
 
@@ -169,7 +187,9 @@ def history_answer(found: VariableHistory) -> dict[str, Any]:
                          "place": place_of(asked.places, entry.pcs[0]),
                          "caller": place_of(asked.places, entry.pcs[1]) if len(entry.pcs) > 1
                          else None, "part": entry.part, "old": entry.old, "new": entry.new,
-                         "read": entry.fill.size if entry.fill else 0} for entry in found.told]}
+                         "read": entry.fill.moved if entry.fill else 0,
+                         "input": entry.fill.here[0] if entry.fill else None}
+                        for entry in found.told]}
 
 
 def history_of(asked: Asked, variable: Variable, most: int = TOLD,

@@ -4,14 +4,13 @@ from __future__ import annotations
 from typing import Iterator, NamedTuple, Optional
 
 from ..recording.chunks import LOAD, STORE, touching
-from ..recording.cut import loaded_before, operation_of
+from ..recording.cut import loaded_before, stored_bytes
 from ..recording.followed import Begins, Fills
 from ..recording.log import SystemCall
 from ..recording.memory import Bytes, Memory, bytes_of, words_of
 from .reading import Asked
 from .variables import Variable
 
-WIDTHS = {b"sb": 1, b"sh": 2}
 LAST_WORD = 0xfffffffc
 Word = Optional[int]
 
@@ -80,7 +79,7 @@ class Words:
         row = text[text.rfind(b"\n", 0, at) + 1:at]
         address = int(row[-9:-1], 16)
         return (address < self.variable.end
-                and self.variable.address < address + WIDTHS.get(operation_of(row), 4))
+                and self.variable.address < address + stored_bytes(row))
 
     def around(self, word: int) -> tuple[Word, Word, Word]:
         return self.known.get(word - 4), self.known.get(word), self.known.get(word + 4)

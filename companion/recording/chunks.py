@@ -133,15 +133,16 @@ def row_at(text: bytes, place: int) -> bytes:
     return text[text.rfind(b"\n", 0, place) + 1:len(text) if end < 0 else end]
 
 
-def rows_with(text: bytes, pattern: Pattern[bytes]) -> Iterator[bytes]:
-    """The rows in which a pattern is found, each once and without its newline."""
+def rows_with(text: bytes, pattern: Pattern[bytes]) -> Iterator[tuple[int, bytes]]:
+    """The rows in which a pattern is found, each once and without its newline, with the place of
+    its beginning."""
     end = -1
     for found in pattern.finditer(text):
         if found.end() > end:
             begin = text.rfind(b"\n", 0, found.end()) + 1
             end = text.find(b"\n", found.end())
             end = len(text) if end < 0 else end
-            yield text[begin:end]
+            yield begin, text[begin:end]
 
 
 def few_ranges(ranges: Iterable[tuple[int, int]], most: int) -> list[tuple[int, int]]:

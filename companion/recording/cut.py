@@ -11,6 +11,7 @@ WORD = 9
 OPERATION = 18
 PC = slice(0, 8)            # of a key
 LONGEST_HEAD = 40           # letters of a hart and a count
+WIDTHS = {b"sb": 1, b"sh": 2}
 
 
 class Cut(NamedTuple):
@@ -60,6 +61,11 @@ def word_of(row: bytes) -> int:
 def operation_of(row: bytes) -> bytes:
     """The name of its instruction."""
     return row.split(b" ", 5)[4]
+
+
+def stored_bytes(row: bytes) -> int:
+    """How many bytes a store's row writes."""
+    return WIDTHS.get(operation_of(row), 4)
 
 
 def hart_at(text: bytes, place: int) -> bytes:

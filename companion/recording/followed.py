@@ -59,19 +59,13 @@ class Begins:
         return len(text) if self.late else max(found.values(), default=0)
 
 
-class FollowedMemory:
-    """memory   what the rows up to a place of the latest chunk tell
-    coming   the `read` calls of the rest of it, with the places behind their rows' beginnings"""
+class Follower:
+    """What goes along the rows of chunks, with the `read` calls between them.
 
-    def __init__(self, log: Log, elf: Elf, is_whole: bool,
-                 ranges: Sequence[tuple[int, int]] = EVERYWHERE) -> None:
-        """`is_whole`: the run's first row is among those that come. Of other words than those in
-        the ranges nothing is told."""
-        self.memory = Memory(elf, is_whole)
-        self.ranges = ranges
-        self.fills = (Fills(log, min(ranges)[0], max(end for _, end in ranges)) if ranges
-                      else Fills(log, 0, 0))
-        self.accesses = re.compile(ACCESS % (words_in(ranges) or NONE))
+    coming   those of the rest of the chunk, with the places behind their rows' beginnings"""
+
+    def __init__(self, fills: Fills) -> None:
+        self.fills = fills
         self.text = b""
         self.place = 0
         self.coming: Deque[tuple[int, SystemCall]] = deque()
@@ -87,11 +81,36 @@ class FollowedMemory:
         while self.coming and self.coming[0][0] <= place:
             at, fill = self.coming.popleft()
             self.tell(at)
-            for low, high in self.ranges:
-                first = max(fill.address, low)
-                end = min(fill.address + fill.size, high)
-                self.memory.fill(first, max(0, end - first))
+            self.place = at
+            self.fill(fill)
         self.tell(place)
+        self.place = place
+
+    def tell(self, place: int) -> None:
+        """Takes the rows from the last place up to another."""
+
+    def fill(self, call: SystemCall) -> None:
+        """Takes a `read` call."""
+
+
+class FollowedMemory(Follower):
+    """memory   what the rows up to a place of the latest chunk tell"""
+
+    def __init__(self, log: Log, elf: Elf, is_whole: bool,
+                 ranges: Sequence[tuple[int, int]] = EVERYWHERE) -> None:
+        """`is_whole`: the run's first row is among those that come. Of other words than those in
+        the ranges nothing is told."""
+        super().__init__(Fills(log, min(ranges)[0], max(end for _, end in ranges)) if ranges
+                         else Fills(log, 0, 0))
+        self.memory = Memory(elf, is_whole)
+        self.ranges = ranges
+        self.accesses = re.compile(ACCESS % (words_in(ranges) or NONE))
+
+    def fill(self, call: SystemCall) -> None:
+        for low, high in self.ranges:
+            first = max(call.address, low)
+            end = min(call.address + call.size, high)
+            self.memory.fill(first, max(0, end - first))
 
     def tell(self, place: int) -> None:
         """Takes what a piece of the chunk says last of each address."""
@@ -105,7 +124,6 @@ class FollowedMemory:
         self.memory.known.update({word: int(last[address], 16) for word, address in latest.items()})
         if self.memory.filled:
             self.memory.filled.difference_update(latest)
-        self.place = place
 
     def last_of(self, address: bytes, place: int) -> int:
         return self.text.rfind(b" %s=" % address, self.place, place)

@@ -7,7 +7,7 @@ import struct
 from array import array
 from dataclasses import dataclass
 from functools import cached_property
-from typing import Iterator, NamedTuple
+from typing import Iterator, NamedTuple, Optional, Sequence
 
 from ..call import program
 from ..call.errors import BAD_LOG, NO_INTERVAL, REFUSED, CompanionError
@@ -116,7 +116,9 @@ class Log:
     bytes      how long the file is
     faulted    whether a hart did
     name       of the file; shown: of the file that was asked of, if this is its end alone
-    unread     how many bytes of that file come before"""
+    unread     how many bytes of that file come before
+    inputs     {a `read` call's hart and count: the first byte of the input that it got}, or nothing
+               if the file lost the run's beginning"""
 
     def __init__(self, name: str, data: bytes, shown: str = "", unread: int = 0) -> None:
         """`data` has to be what `check` takes: records are read as they stand. CompanionError if
@@ -200,6 +202,24 @@ class Log:
     def first_intervals(self) -> dict[int, Interval]:
         """{hart: its first interval in the log}"""
         return {hart: found[0] for hart, found in self.by_hart().items()}
+
+    @cached_property
+    def inputs(self) -> dict[tuple[int, int], int]:
+        if self.unread:
+            return load_log(self.shown).inputs
+        found: dict[tuple[int, int], int] = {}
+        at = 0
+        for call in self.system_calls() if not self.dropped else ():
+            if call.kind == READ_CALL:
+                found[call.hart, call.count] = at
+                at += call.size
+        return found
+
+    def input_bytes(self, hart: int, count: int, first: int, end: int) -> Sequence[Optional[int]]:
+        """Which of the input some bytes are that a `read` call brought; None for each if the file
+        lost the run's beginning."""
+        begin = self.inputs.get((hart, count))
+        return [None] * (end - first) if begin is None else range(begin + first, begin + end)
 
     def system_calls(self) -> Iterator[SystemCall]:
         """Those after which a hart continued, in their order. What they were asked is in the

@@ -109,7 +109,7 @@ def history_data(page: Page, found: VariableHistory) -> dict[str, Any]:
     return {"title": variable.what(), "first": variable.address & ~3, "end": variable.end,
             "stores": found.total,
             "rows": [[entry.hart, entry.count, variable.name + entry.part, entry.old,
-                      "bytes of a read call" if entry.fill else entry.new, page.place(entry.pcs[0])]
+                      entry.gave, page.place(entry.pcs[0])]
                      for entry in found.told]}
 
 

@@ -4,6 +4,7 @@ from __future__ import annotations
 from typing import NamedTuple
 
 from ..call.text import number
+from ..recording.inputs import input_text
 from ..recording.log import Log
 from .facts import Facts
 from .history import History
@@ -45,8 +46,12 @@ def came_from(facts: Facts, n: int) -> str:
     mine = [i for i in range(4) if rest >> i & 1]
     for call in reversed(facts.rows.reads):
         if call.row < n and any(call.address <= word + i < call.address + call.size for i in mine):
-            return (f"a read call filled it (hart {call.hart}, "
-                    f"count {number(facts.rows.count_of(call.row))})")
+            count = facts.rows.count_of(call.row)
+            brought = facts.log.input_bytes(call.hart, count, 0, call.size)
+            here = [brought[word + i - call.address] for i in mine
+                    if 0 <= word + i - call.address < call.size]
+            return (f"a read call brought {input_text(here)} "
+                    f"(hart {call.hart}, count {number(count)})")
     stored = facts.earlier_of(n)
     if stored:
         places = facts.places.chain([stored.code.pc, *stored.calls], MOST_FRAMES)

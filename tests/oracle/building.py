@@ -29,13 +29,14 @@ INPUT = b"abx abacus: a text that is read\n" * 40
 @dataclass
 class Recorded:
     """A recording: its log and its program; `named` has the names if `elf` has none; `said` is how
-    it was made."""
+    it was made; `read` is its input."""
     log: str
     book: str
     elf: str
     named: str
     harts: int
     settings: List[str]
+    read: bytes
     is_whole: bool = True
     said: List[str] = field(default_factory=list)
 
@@ -108,7 +109,7 @@ def recorded(program: str, folder: str, elf: str, named: str, harts: int, *optio
     if done.returncode not in (0, 10, 11):
         raise RuntimeError(f"{' '.join(words)}: {done.stderr.decode()}")
     is_whole = b" dropped 0 " in done.stderr
-    return Recorded(log, book, elf, named, harts, settings, is_whole, [" ".join(words)])
+    return Recorded(log, book, elf, named, harts, settings, read, is_whole, [" ".join(words)])
 
 
 def crashes() -> List[List[str]]:

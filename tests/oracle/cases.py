@@ -91,6 +91,7 @@ def all_of(*asks: Callable[[Asked, random.Random], None], times: int = 1) -> Ask
 
 
 G = "-g"
+TEXT = bytes(range(1, 256)) * 3
 CASES = [
     Case("recursion", ["-O2", G], [], calls("walk", where=[("walk", "from", "==", "1")])),
     Case("tails", ["-O2", G], [], calls("even", "odd", "main")),
@@ -116,9 +117,17 @@ CASES = [
     Case("keeps", ["-O2", G], ["--limit", "3000"], why()),
     Case("both", ["-O1", G], ["--limit", "3000"], why(), harts=2),
     Case("written_before", ["-O1", G], [], all_of(ask_output, times=9)),
+    Case("last_word", ["-O2", G], [], all_of(ask_output, ask_core)),
     Case("readers", ["-O2", G], ["--seed", "3"], why(), harts=2),
     Case("other_byte", ["-O2", G], [], lambda asked: None, first=b"ab", second=b"x"),
     Case("read_call", ["-O2", G], [], history("text"), first=b"abxdefgh", second=b"abcdefgh"),
+    Case("inputs", ["-O1", G], ["--seed", "3"],
+         all_of(ask_history, ask_find, ask_why, ask_page, times=3), harts=3, first=TEXT),
+    Case("inputs-lost", ["-O1", G], ["--seed", "3", "--log-size", "16384"],
+         all_of(ask_history, ask_find, ask_why), harts=3, first=TEXT),
+    Case("inputs-end", ["-O1", G], ["--seed", "3", "--interval", "100"], why("--rows", "300"),
+         harts=3, first=TEXT),
+    Case("read_part", ["-O2", G], [], why()),
     Case("heap", ["-O2", G], [], calls("free", "malloc"), library=True),
     Case("heap-stripped", ["-O2", G], [], calls("main"), library=True, is_stripped=True),
     Case("constants", [], ["--limit", "300000"], why(), elf="tests/crashes/jump_shape.elf"),

@@ -109,12 +109,14 @@ class Ended:
 
 class Head(NamedTuple):
     """What a log file says beside its rows. `late`: the harts whose first interval has an End here,
-    but no Header: its rows are lost, and were done beside others that are here."""
+    but no Header: its rows are lost, and were done beside others that are here. `called`: the harts
+    and counts of the Ends by a system call, in the log's order."""
     harts: int
     dropped: int
     late: Set[int]
     first: Dict[int, Tuple[int, List[int]]]     # {hart: its first Header's count, its registers}
     ends: Dict[int, Ended]
+    called: List[Tuple[int, int]]
 
 
 def read_head(name: str) -> Head:
@@ -136,6 +138,7 @@ def read_head(name: str) -> Head:
         records = b"".join(reversed(pieces))
     first: Dict[int, Tuple[int, List[int]]] = {}
     late: Set[int] = set()
+    called = []
     ends = {}
     at = 0
     while at < len(records):
@@ -147,10 +150,11 @@ def read_head(name: str) -> Head:
         elif tag == END:
             count, reason, value = struct.unpack_from("<QBI", records, at + 2)
             ends[hart] = Ended(count, REASONS[reason], value)
+            called += [(hart, count)] if REASONS[reason] == "call" else []
             if hart not in first:
                 late.add(hart)
         at += SIZES[tag]
-    return Head(harts, dropped, late, first, ends)
+    return Head(harts, dropped, late, first, ends, called)
 
 
 class Image:

@@ -6,6 +6,7 @@ from typing import Any, Dict, List, Optional
 
 from .asking import Asked
 from .machine import READ, Machine, Row
+from .of_input import Inputs
 
 TITLES = "GOOD", "BAD"
 
@@ -26,6 +27,17 @@ def giver(machine: Machine, load: Row) -> Optional[Row]:
         if row.store and row.store.address < end and first < row.store.address + row.code.width:
             return row
     return None
+
+
+def brought(machine: Machine, load: Row, by: Optional[Row]) -> List[Optional[int]]:
+    """The bytes of the input that a `read` call put into what a row loads."""
+    inputs = Inputs(machine)
+    call = inputs.reads.get(by.number) if by else None
+    if not call or not load.load:
+        return []
+    first = max(load.load.address, call.address)
+    end = min(load.load.address + load.code.width, call.address + call.size)
+    return list(inputs.numbers(call, first - call.address, end - call.address))
 
 
 def way_of(machine: Machine, hart: int) -> List[int]:
@@ -71,5 +83,7 @@ def ask_parting(asked: Asked, words: List[str], told: Dict[str, Any],
         true = giver(machine, row)
         asked.same("compare: stored by", words, (row.text, told["givers"][at]),
                    (row.text, true.text if true else ""))
+        asked.same("compare: bytes of the input", words, (row.text, told["inputs"][at]),
+                   (row.text, brought(machine, row, true)))
     if asked.recorded.harts == 1 and told["same"][0]["count"] == told["same"][1]["count"]:
         asked.same("compare: where", words, told["same"][0]["count"], first - 1)

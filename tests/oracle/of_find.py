@@ -5,6 +5,8 @@ import random
 from typing import Any, Dict, List, Tuple
 
 from .asking import Asked
+from .machine import Row
+from .of_input import Inputs, ask_bytes
 
 LONGEST = 200               # places of an answer
 
@@ -23,6 +25,8 @@ def ask_value(asked: Asked, value: int) -> None:
     if told is None:
         return
     places: Dict[Tuple[int, str], Dict[str, Any]] = {}
+    touched: Dict[Tuple[int, str], List[Row]] = {}      # the first row of each word that is told
+    inputs = Inputs(asked.machine)
     total = 0
     for row in asked.machine.rows:
         did = ""
@@ -44,11 +48,18 @@ def ask_value(asked: Asked, value: int) -> None:
         group.update(last=at, times=group["times"] + 1)
         if access and f"{access.address & ~3:08x}" not in group["words"]:
             group["words"].append(f"{access.address & ~3:08x}")
+            touched.setdefault((row.code.pc, did), []).append(row)
     asked.same("find: rows", words, told["rows"], total)
     asked.program.fetch(pc for pc, _ in places)
     wanted: List[Dict[str, Any]] = [{**group, "place": asked.place(pc), "words": group["words"][:3]}
                                     for (pc, _), group in places.items()]
     asked.same("find: places", words, len(told["places"]), min(len(wanted), LONGEST))
-    for one, group in zip(told["places"], wanted):
-        for key, true in group.items():
-            asked.same(f"find: {key}", words, one[key], true)
+    for one, group, key in zip(told["places"], wanted, places):
+        for what, true in group.items():
+            asked.same(f"find: {what}", words, one[what], true)
+        rows = touched.get(key, [])[:3]
+        if asked.same("find: words of the input", words, len(one["inputs"]), len(rows)):
+            for row, numbers in zip(rows, one["inputs"]):
+                is_load = key[1].startswith("loads")
+                ask_bytes(asked, words, row, numbers,
+                          list(inputs.loads.get(row.number, {}).values()) if is_load else [])

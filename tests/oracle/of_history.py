@@ -6,7 +6,8 @@ import re
 from typing import Any, Dict, Iterator, List, NamedTuple, Optional, Tuple
 
 from .asking import Asked
-from .machine import READ, Machine, Row, SystemCall
+from .machine import Machine, Row, SystemCall
+from .of_input import Inputs
 from .program import number_text
 
 WORDS: Dict[str, Any] = {"kind": "bytes"}
@@ -52,7 +53,8 @@ class Index:
                 self.rows.setdefault(word, []).append(row.number)
             if row.store:
                 self.stored[row.store.address & ~3] = self.stored.get(row.store.address & ~3, 0) + 1
-        self.fills = {call.row.number: call for call in machine.calls if call.kind == READ}
+        self.inputs = Inputs(machine)
+        self.fills = self.inputs.reads
 
     def at_start(self, address: int) -> Optional[int]:
         image = self.machine.image
@@ -141,7 +143,7 @@ def variables(asked: Asked, index: Index, draw: random.Random, most: int) -> Ite
         yield words_of(f"{at:08x}:{size}", at, size)
 
 
-def entry(asked: Asked, variable: Variable, stored: Stored) -> Dict[str, Any]:
+def entry(asked: Asked, inputs: Inputs, variable: Variable, stored: Stored) -> Dict[str, Any]:
     """As docs/JSON.md has it. `old` and `new` are left out if this doesn't know the type."""
     first = max(stored.first - variable.address, 0)
     end = min(stored.end - variable.address, variable.size)
@@ -149,7 +151,10 @@ def entry(asked: Asked, variable: Variable, stored: Stored) -> Dict[str, Any]:
     said: Dict[str, Any] = {"hart": stored.row.hart, "count": stored.row.ic, "row": stored.row.text,
                             "place": asked.place(stored.row.code.pc),
                             "caller": None if caller is None else asked.place(caller),
-                            "read": stored.fill.size if stored.fill else 0}
+                            "read": stored.fill.size if stored.fill else 0, "input": None}
+    if stored.fill:
+        said["input"] = inputs.numbers(stored.fill, first + variable.address - stored.first,
+                                       end + variable.address - stored.first)[0]
     leaves = [leaf for leaf in variable.leaves if leaf.at < end and first < leaf.at + leaf.size]
     if (leaves and all(leaf.type for leaf in variable.leaves)
             and not (stored.fill and len(leaves) > 1)):
@@ -190,7 +195,7 @@ def ask(asked: Asked, index: Index, variable: Variable) -> None:
                   (len(true), len(true))):
         for one, stored in zip(told["entries"], true):
             at = f"{one['hart']}:{one['count']}"
-            for key, value in entry(asked, variable, stored).items():
+            for key, value in entry(asked, index.inputs, variable, stored).items():
                 asked.same(f"history: {key}", words, (at, one[key]),
                            (f"{stored.row.hart}:{stored.row.ic}", value))
 

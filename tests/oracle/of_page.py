@@ -37,8 +37,7 @@ def ask_page(asked: Asked, draw: random.Random) -> None:
         if told:
             asked.same("page: stores", [name], one["stores"], told["stores"])
             for row, entry in zip(one["rows"], told["entries"]):
-                said = [entry["hart"], entry["count"], entry["old"],
-                        "bytes of a read call" if entry["read"] else entry["new"]]
+                said = [entry["hart"], entry["count"], entry["old"], gave(entry, row[4])]
                 asked.same("page: store", [name], [*row[:2], *row[3:5]], said)
                 ask_place(asked, name, data["places"][row[5]], entry["place"])
     for one in draw.sample(questions["functions"], min(MOST_ASKED, len(questions["functions"]))):
@@ -49,6 +48,16 @@ def ask_page(asked: Asked, draw: random.Random) -> None:
                 ask_call(asked, one["name"], row, entry)
                 if row[5] >= 0 and entry["from"]:
                     ask_place(asked, one["name"], data["places"][row[5]], entry["from"])
+
+
+def gave(entry: Dict[str, Any], told: str) -> str:
+    """What a store is told to have given: of a `read` call the first byte of the input is held to
+    the JSON."""
+    if not entry["read"]:
+        return str(entry["new"])
+    first = "unknown bytes?" if entry["input"] is None else f"bytes? {entry['input']:,}"
+    true = rf"{entry['read']:,} bytes? of a read call, here {first}\b.* of the input"
+    return told if re.fullmatch(true, told) else true
 
 
 def ask_call(asked: Asked, name: str, row: List[Any], entry: Dict[str, Any]) -> None:

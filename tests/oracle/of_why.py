@@ -9,6 +9,7 @@ from typing import Any, Dict, List, Optional, Tuple
 
 from .asking import Asked
 from .machine import NAMES, READ, REGISTER, Machine, Row
+from .of_input import Inputs
 
 NEVER = re.compile(r"from ([\w.[\]]+(?:\+\d+)?)(?: \(a word of \w+\))?, "
                    r"zero from the start: never stored")
@@ -31,6 +32,8 @@ NOW = re.compile(r"    ([0-9a-f]{8})(?: \(.*\))?, now ([0-9a-f]{8}), in ")
 STOPPED = re.compile(r"    ([\d,]+) times?, last at count ([\d,]+): (.*)")
 HOLD = re.compile(r"other accesses to .* their hart holds (.*?), here ")
 OFTEN = 3                   # what was done less often is no line that ran often
+BROUGHT = re.compile(r"a read call brought (unknown )?bytes? ([\d, and to]*)of the input "
+                     r"\(hart (\d+), count ([\d,]+)\)")
 LEFT_OUT = re.compile(r"Only the last|left out|--rows N")
 
 
@@ -233,6 +236,9 @@ def ask_stopped(asked: Asked, words: Tuple[str, ...], line: str, hart: int) -> N
 
 def ask_before(asked: Asked, words: Tuple[str, ...], told: Dict[str, Any], stored: Bytes) -> None:
     """Of the loads at its place one has a byte that no row had stored, and that is 0."""
+    brought = BROUGHT.fullmatch(told["words"])
+    if brought:
+        ask_brought(asked, words, told, brought)
     if told["words"] != "zero from the start: never stored":
         return
     unset = [unset_bytes(row, stored)
@@ -240,6 +246,27 @@ def ask_before(asked: Asked, words: Tuple[str, ...], told: Dict[str, Any], store
     is_so = any(each and not any(each) for each in unset)
     asked.same("why: never stored", words, (told["words"], told["place"], is_so),
                (told["words"], told["place"], True))
+
+
+def ask_brought(asked: Asked, words: Tuple[str, ...], told: Dict[str, Any],
+                brought: "re.Match[str]") -> None:
+    """A load at its place has these bytes of the call."""
+    inputs = Inputs(asked.machine)
+    call = inputs.reads[row_of(asked, brought[3], brought[4]).number]
+    here = inputs.numbers(call, 0, call.size)
+    numbers = [int(each.replace(",", "")) for each in re.findall(r"[\d,]+", brought[2])]
+    if " to " in brought[2]:
+        numbers = list(range(numbers[0], numbers[-1] + 1))
+    found = []
+    for row in asked.machine.rows:
+        if row.load and text_of(asked, row) == told["place"]:
+            first = row.load.address & 3
+            has = inputs.loads.get(row.number, {})
+            found.append([has[i] for i in range(first, first + row.code.width)
+                          if i in has and has[i] in here])
+    asked.same("why: bytes of the input", words, (told["words"], numbers in found
+                                                  or bool(brought[1]) and here[0] is None),
+               (told["words"], True))
 
 
 def unset_bytes(row: Row, stored: Bytes) -> List[int]:

@@ -50,7 +50,8 @@ class CompareTest(case.Case):
             self.assertEqual(giver, calls[-1])  # the `read` call that brought the text
         said = self.says("compare", *logs, self.elf("word_count"))
         self.assertEqual(
-            len(re.findall(r"\n +stored by 0:16 in .*: a read call, a0=0000001[56]\n", said)), 2)
+            len(re.findall(r"\n +stored by 0:16 in .*: a read call, byte 14 of the input\n",
+                           said)), 2)
 
     def test_who_had_stored_what_was_loaded(self):
         """Of a fault, and of two locks that are taken in two orders."""

@@ -120,9 +120,13 @@ class HistoryTest(case.Case):
                  .decode().split("\n") if re.search(r"ecall \| a0=0000(1000|0518)$", line)]
         said = self.says("history", log, self.elf("word_count"), "000112a0")
         self.assertEqual(told(said), [tuple(call[:2]) for call in calls])
-        self.assertIn("00000000 -> 4,096 bytes of a read call", said)
-        self.assertIn(f"{int.from_bytes(b'a bc', 'little'):08x} -> 1,304 bytes of a read call",
+        self.assertIn("00000000 -> 4,096 bytes of a read call, here bytes 0 to 3 of the input ",
                       said)
+        self.assertIn(f"{int.from_bytes(b'a bc', 'little'):08x} -> 1,304 bytes of a read call, "
+                      "here bytes 4,096 to 4,099 of the input ", said)
+        said = self.says("history", log, self.elf("word_count"), "000112a1:1", "--rows", "20000")
+        self.assertIn(" 20 -> 1,304 bytes of a read call, here byte 4,097 of the input ", said)
+        self.assertIn("Only the last 78,265 rows were read", said)
 
     def test_what_was_before_a_log_that_lost_records_is_unknown(self):
         log = self.record("wild_store", "--seed", "1", "--log-size", "16384", "--interval", "500",

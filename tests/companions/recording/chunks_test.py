@@ -23,7 +23,7 @@ class ChunksTest(case.Case):
 
     def found(self, pattern):
         return [row for text in chunks.chunks(self.log, self.of)
-                for row in chunks.rows_with(text, pattern)]
+                for _, row in chunks.rows_with(text, pattern)]
 
     def test_they_have_all_rows_and_nothing_else(self):
         texts = list(chunks.chunks(self.log, self.of))
