@@ -180,10 +180,7 @@ class Sums:
         def add(row: bytes) -> None:
             x = tags[rs1]
             y = tags[rs2]
-            if x is None:
-                tags[rd] = y
-            else:
-                tags[rd] = x if y is None else None
+            tags[rd] = None if x and y else x or y
             rows[rd] = row
 
         def subtract(row: bytes) -> None:
@@ -204,7 +201,7 @@ class Sums:
             return unsure
         if one.name == "sub":
             return subtract
-        sum_of_tags = "y if x is None else x if y is None else None"
+        sum_of_tags = "None if x and y else x or y"
         hart.texts[add] = "", f"x, y = tags[{rs1}], tags[{rs2}]; tags[{rd}] = {sum_of_tags}"
         return add
 
@@ -227,10 +224,7 @@ class Sums:
             kept[rd] = kept[pointer] if was_indexed else rows[pointer]
             x = tags[rs1]
             y = tags[rs2]
-            if x is None:
-                tags[rd] = y
-            else:
-                tags[rd] = x if y is None else None
+            tags[rd] = None if x and y else x or y
             rows[rd] = row
         return act
 
