@@ -7,6 +7,11 @@ compile_with_names() { # OBJECT SOURCE [OPTION..]
         -fno-tree-loop-distribute-patterns "-ffile-prefix-map=$PWD=." "-Wa,--debug-prefix-map,$PWD=." -I examples/lib -c -o "$1" "${@:2}"
 }
 
+link_with_names() { # ELF OBJECT..
+    riscv64-unknown-elf-gcc -march=rv32ima -mabi=ilp32 -nostdlib -static -T examples/lib/program.ld -z max-page-size=4096 \
+        -Wl,--build-id=none -Wl,--fatal-warnings -o "$@"
+}
+
 # Links the sources with the start and the system calls of the examples. OPTIONS can be more options of the compiler.
 build_with_names() ( # ELF SOURCE..
     set -e
@@ -19,6 +24,5 @@ build_with_names() ( # ELF SOURCE..
         # shellcheck disable=SC2086
         compile_with_names "${objects[-1]}" "$source" ${OPTIONS-}
     done
-    riscv64-unknown-elf-gcc -march=rv32ima -mabi=ilp32 -nostdlib -static -T examples/lib/program.ld -z max-page-size=4096 \
-        -Wl,--build-id=none -Wl,--fatal-warnings -o "$elf" "${objects[@]}"
+    link_with_names "$elf" "${objects[@]}"
 )

@@ -20,20 +20,28 @@ link_with_picolibc() { # ELF OBJECT..
         -z max-page-size=4096 -o "$elf" "$@" "$library/libc.a"
 }
 
-build_with_picolibc() { # ELF SOURCE
-    local source objects=()
-    for source in examples/picolibc/start.S examples/picolibc/machine.c "$2"; do
-        objects+=("$library/$(basename "${source%.*}").o")
-        compile_with_names "${objects[-1]}" "$source" --specs=picolibc.specs -fhosted
+# Sets `objects`, those of sources in a folder; what several programs share is compiled once.
+compile() { # FOLDER "SOURCE.." [OPTION..]
+    local source
+    objects=()
+    mkdir -p "$library/$1"
+    for source in $2; do
+        objects+=("$library/$1/$(basename "${source%.*}").o")
+        [ -e "${objects[-1]}" ] || compile_with_names "${objects[-1]}" "$source" "${@:3}"
     done
-    link_with_picolibc "$1" "${objects[@]}"
 }
 
 for source in tests/crashes/*.c; do
     name=$(basename "$source" .c)
     case $name in
         heap) ;;
-        libc_*) build_with_picolibc "$to/$name.elf" "$source" ;;
-        *) build_with_names "$to/$name.elf" tests/crashes/heap.c "$source" ;;
+        libc_*)
+            compile libc "examples/picolibc/start.S examples/picolibc/machine.c $source" --specs=picolibc.specs -fhosted
+            link_with_picolibc "$to/$name.elf" "${objects[@]}"
+            ;;
+        *)
+            compile own "examples/lib/start.S examples/lib/machine.c tests/crashes/heap.c $source"
+            link_with_names "$to/$name.elf" "${objects[@]}"
+            ;;
     esac
 done
