@@ -98,7 +98,8 @@ class Target:
         try:
             return Scratch(self.folder(), ".zelkuma-")
         except OSError as error:
-            self.refuse(f"{self.folder()}: {error.strerror}", UNREADABLE)
+            why = f"{self.folder()}: {error.strerror}"
+        return self.refuse(why, UNREADABLE)
 
     def take(self, made: str) -> None:
         """Saves the file `made`, which is in a folder of `scratch`."""

@@ -235,8 +235,10 @@ class Accesses:
                 if (states[address:address + 4] != ZEROS[4]
                         or thing is not None and not thing.holds(address, 4)):
                     access = JudgedAccess(hart, row, one, address, 4, stores, one.rs1)
-                    (checks.judge.store(access, thing) if stores
-                     else checks.judge.load(access, thing))
+                    if stores:
+                        checks.judge.store(access, thing)
+                    else:
+                        checks.judge.load(access, thing)
                 if stores:
                     words[address >> 2] = tags[one.rs2] if keeps else None
             if one.rd:

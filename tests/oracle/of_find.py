@@ -2,10 +2,10 @@
 from __future__ import annotations
 
 import random
-from typing import Any, Dict, List, Tuple
+from typing import Any, Dict, List, Optional, Tuple
 
 from .asking import Asked
-from .machine import Row
+from .machine import Access, Row
 from .of_input import Inputs, ask_bytes
 
 LONGEST = 200               # places of an answer
@@ -19,6 +19,15 @@ def ask_find(asked: Asked, draw: random.Random, most: int = 3) -> None:
         ask_value(asked, draw.choice(values or [row.code.pc]))
 
 
+def use_of(row: Row, value: int) -> Tuple[str, Optional[Access]]:
+    """What a row does with a value, or nothing, and by which access."""
+    if row.store and row.store.value == value:
+        return "stores it to", row.store
+    if row.load and row.load.value == value:
+        return "loads it from", row.load
+    return (f"puts it into {row.register}" if row.register and row.result == value else ""), None
+
+
 def ask_value(asked: Asked, value: int) -> None:
     words = [f"{value:08x}"]
     told = asked.json("find", *words)
@@ -29,16 +38,7 @@ def ask_value(asked: Asked, value: int) -> None:
     inputs = Inputs(asked.machine)
     total = 0
     for row in asked.machine.rows:
-        did = ""
-        access = None
-        if row.store and row.store.value == value:
-            did = "stores it to"
-            access = row.store
-        elif row.load and row.load.value == value:
-            did = "loads it from"
-            access = row.load
-        elif row.register and row.result == value:
-            did = f"puts it into {row.register}"
+        did, access = use_of(row, value)
         if not did:
             continue
         total += 1
