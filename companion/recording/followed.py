@@ -114,16 +114,11 @@ class FollowedMemory(Follower):
 
     def tell(self, place: int) -> None:
         """Takes what a piece of the chunk says last of each address."""
-        last: dict[bytes, bytes] = dict(self.accesses.findall(self.text, self.place, place))
-        latest: dict[int, bytes] = {}           # {word: the address by which it was accessed}
-        for address in last:
-            word = int(address, 16) & ~3
-            if (word not in latest
-                    or self.last_of(latest[word], place) < self.last_of(address, place)):
-                latest[word] = address
-        self.memory.known.update({word: int(last[address], 16) for word, address in latest.items()})
+        found: list[tuple[bytes, bytes]] = self.accesses.findall(self.text, self.place, place)
+        last = dict(found)
+        # A word is accessed by the addresses of its bytes, too: the latest access is told last
+        known = {int(address, 16) & ~3: int(last[address], 16)
+                 for address in reversed(dict(reversed(found)))}
+        self.memory.known.update(known)
         if self.memory.filled:
-            self.memory.filled.difference_update(latest)
-
-    def last_of(self, address: bytes, place: int) -> int:
-        return self.text.rfind(b" %s=" % address, self.place, place)
+            self.memory.filled.difference_update(known)

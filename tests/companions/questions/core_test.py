@@ -9,6 +9,7 @@ import subprocess
 
 import case
 import common
+from recordings import DATA, T0, T1, addi, elf_of, lui, store
 from reference import Reference
 
 from companion.questions import export
@@ -138,6 +139,14 @@ class CoreTest(case.Case):
             taken = {0: one == other, 1: one != other, 4: signed < its, 5: signed >= its,
                      6: one < other, 7: one >= other}
             self.assertEqual({kind: is_taken(kind, one, other) for kind in taken}, taken)
+
+    def test_a_word_that_is_stored_in_bytes(self):
+        """Its latest access tells it, also by an address that another came behind."""
+        code = [lui(8, DATA), addi(T0, 0, 1), addi(T1, 0, 2), store(T0, 8, 0, kind=0),
+                store(T1, 8, 1, kind=0), store(T1, 8, 0, kind=0)]
+        elf = common.written(common.path("bytes.elf"), elf_of(code))
+        found, _ = self.core(common.record("bytes", elf, "--seed", "1"), elf)
+        self.assertEqual(found.word(DATA), b"\2\2\0\0")
 
     def test_a_log_that_lost_its_beginning(self):
         """What isn't known is left out, and said."""
