@@ -4,7 +4,8 @@
 bench/rechecks.py [--tries N] [PROGRAM..]   without PROGRAM those of tests/crashes/mended
 
 Each program has nine builds: the recorded one, the same with other line numbers, at four other
-levels, with half a fix, and with a true fix at two levels. A cell says how a bad end was found: by
+levels, with half a fix, and with a true fix at two levels. Some have two more: with a change that
+mends nothing, and with other names, functions and lines. A cell says how a bad end was found: by
 the order itself or by so many of those near it. Behind it stands how many of the switches are as
 they were, if not all. The status is 1 if a verdict is wrong."""
 import argparse
@@ -22,7 +23,8 @@ import mended
 
 # Each build: its name, the change of the source, the level; the mended ones are last.
 BUILDS = (("same", "", "-O2"), ("moved", mended.MOVED, "-O2"), ("-O0", "", "-O0"),
-          ("-O1", "", "-O1"), ("-Os", "", "-Os"), ("-O3", "", "-O3"), ("half", "half", "-O2"),
+          ("-O1", "", "-O1"), ("-Os", "", "-Os"), ("-O3", "", "-O3"),
+          ("rewritten", "rewritten", "-O2"), ("none", "none", "-O2"), ("half", "half", "-O2"),
           ("mended", "mended", "-O2"), ("mended -O1", "mended", "-O1"))
 HOLDS = 0
 BAD_ENDS = (10, 11, 25)
@@ -46,7 +48,9 @@ def order_of(name):
     """The order file of a program's recording."""
     order = common.path(f"{name}.order")
     short = common.path(f"{name}.short")
-    said_by("shrink", *mended.recorded(name), short, short + ".book", "--order", order)
+    output = mended.program_of(name).output
+    said_by("shrink", *mended.recorded(name), short, short + ".book", "--order", order,
+            *(("--output", output) if output else ()))
     return order
 
 
@@ -72,6 +76,9 @@ def row_of(name, tries, kinds):
     order = order_of(name)
     cells = []
     for _, change, level in BUILDS:
+        if not mended.has_change(name, change):
+            cells.append("")
+            continue
         is_mended = change == "mended"
         new = mended.built(name, change, level)
         told = said_by("recheck", order, new, "--tries", str(tries))["orders"][0]

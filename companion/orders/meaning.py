@@ -3,7 +3,7 @@ program."""
 from __future__ import annotations
 
 import re
-from typing import Callable, Iterator, List, Match, Optional, Sequence, Tuple
+from typing import Callable, Iterator, List, Match, NamedTuple, Optional, Sequence, Set, Tuple
 
 from ..recording.calls import entries_of
 from ..recording.chunks import OTHER_LINES
@@ -18,8 +18,15 @@ from .marks import ATOMIC, CALL, FAULT, LOAD, NO_SYMBOL, STORE, Point
 MOST_CALLERS = 3            # functions over a row that tell one helper's call from another's
 MOST_TEXTS = 100000         # rows whose points are remembered by their text, at some 300 bytes each
 VALUE = re.compile(rb"=\w+")
+WORD = re.compile(rb"(load|store) (\w{8})")
 STEP = "step"               # a row that ends no turn
 TWO = 2                     # frames: a line and the one that called it
+
+
+class Access(NamedTuple):
+    """Of a word; whether it stores."""
+    word: int
+    is_store: bool
 
 
 class Turn:
@@ -43,6 +50,10 @@ class Turn:
     @property
     def pc(self) -> bytes:
         return self.what[PC]
+
+    def accesses(self) -> Set[Access]:
+        return {Access(int(address, 16) & ~3, kind == b"store")
+                for kind, address in WORD.findall(self.what)}
 
     def calls(self) -> Tuple[int, ...]:
         """The places of the innermost calls over it."""

@@ -1,13 +1,14 @@
 """Orders near an order, the same each time. A switch comes a little earlier or later, alone and
 with others. Or behind the order up to a switch come bursts of all harts. Or turns are drawn from
-the start."""
+the start. Of an order that comes and ends well, switches are moved to shared accesses, too."""
 from __future__ import annotations
 
 import random
 from itertools import islice, zip_longest
-from typing import Iterator, List, Optional
+from typing import AbstractSet, Iterator, List, Mapping, Optional, Sequence
 
 from ..recording.turns import Piece, Pieces, again_at, joined
+from .meaning import Access
 from .runs import AskedTurns
 from .windows import SLACK, shifted
 
@@ -45,6 +46,36 @@ def several_moved(pieces: Pieces, draw: random.Random) -> Iterator[Optional[Aske
             moved = shifted(found, at, by, 0) if can_move(found, at, by) else found
             found = moved if len(moved) == len(found) else found
         yield AskedTurns(found) if found != pieces else None
+
+
+def at_accesses(pieces: Pieces, shared: Mapping[int, Sequence[bool]]) -> List[AskedTurns]:
+    """Each switch right behind another access of its hart, the nearest first. `shared` says of each
+    turn of a hart if it ended with an access to a word that harts share: moved over others, a
+    switch changes nothing."""
+    found = []
+    for at, piece in enumerate(pieces[:-1]):
+        done = sum(each.turns for each in pieces[:at + 1] if each.hart == piece.hart)
+        for by in range(-FARTHEST, FARTHEST + 1):
+            place = done + by - 1
+            if (by and 0 <= place < len(shared[piece.hart]) and shared[piece.hart][place]
+                    and can_move(pieces, at, by)):
+                found.append((abs(by), at, by))
+    return [AskedTurns(shifted(pieces, at, by, SLACK)) for _, at, by in sorted(found)]
+
+
+def shared_turns(words: Mapping[int, Sequence[AbstractSet[Access]]]) -> dict[int, list[bool]]:
+    """Of each hart's turns, whether it accesses a word of which another hart does, too, and that
+    one of them stores. `words` are the accesses of each turn."""
+    harts: dict[int, set[int]] = {}
+    stored: set[int] = set()
+    for hart, turns in words.items():
+        for access in set().union(*turns):
+            harts.setdefault(access.word, set()).add(hart)
+            if access.is_store:
+                stored.add(access.word)
+    shared = {word for word in stored if len(harts[word]) > 1}
+    return {hart: [any(access.word in shared for access in turn) for turn in turns]
+            for hart, turns in words.items()}
 
 
 def can_move(pieces: Pieces, at: int, by: int) -> bool:

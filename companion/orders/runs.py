@@ -6,7 +6,8 @@ import os
 import shlex
 from collections import deque
 from pathlib import Path
-from typing import Deque, Dict, Iterator, List, Mapping, NamedTuple, Optional, Sequence, Tuple
+from typing import (Deque, Dict, Iterator, List, Mapping, NamedTuple, Optional, Sequence, Set,
+                    Tuple)
 
 from ..call import streams
 from ..call.children import Process
@@ -16,7 +17,7 @@ from ..recording.log import Interval, is_fault
 from ..recording.row import Row
 from ..recording.turns import Piece, Pieces, joined, turns_of
 from .marks import EXIT, FAULT, LIMIT, OUTPUT, WELL, Ended
-from .meaning import Meaning, Turn
+from .meaning import Access, Meaning, Turn
 from .record import ENDS, SCHEDULE, Quick, refusal
 from .record import FAULT as STATUS_FAULT
 from .record import LIMIT as STATUS_LIMIT
@@ -199,6 +200,17 @@ class Runs:
                 break
             limit = min(most_counts, GROWN * limit)
         return self.turns_of(made, hart, prefix.count(hart), min(taken, most))
+
+    def accesses(self, pieces: Pieces, behind: int) -> Dict[int, List[Set[Access]]]:
+        """Of each hart what its turns access in the run by a list, and so many turns behind it."""
+        made = self.record(AskedTurns(pieces))
+        turns = made.turns()
+        found = {}
+        for hart in sorted({piece.hart for piece in pieces}):
+            most = behind + sum(piece.turns for piece in pieces if piece.hart == hart)
+            found[hart] = [turn.accesses() for turn in
+                           self.turns_of(made, hart, 0, min(most, turns.count(hart)))]
+        return found
 
     def turns_of(self, made: EndedRecording, hart: int, first: int, most: int) -> List[Turn]:
         """So many turns of a hart from one on. Of those that the log has lost no row is known."""

@@ -11,7 +11,7 @@ from ..recording.answers import LONGEST
 from ..recording.turns import Pieces
 from .carry import GONE, KEPT, Carrier, CarriedStep
 from .marks import FAULT, LIMIT, WELL, Ended, Order, Power
-from .neighbours import neighbours
+from .neighbours import FARTHEST, at_accesses, neighbours, shared_turns
 from .order_file import point_text
 from .record import FAULT as STATUS_FAULT
 from .record import LIMIT as STATUS_LIMIT
@@ -67,13 +67,13 @@ class Checked:
     shown: Optional[BadEnding] = None
 
 
-def near_of(runs: Runs, pieces: Pieces, harts: int, tries: int) -> Near:
-    """Tries so many orders near one."""
-    most = min(tries, MOST_INSTRUCTIONS // max(1, runs.longest))
-    found = Near(left_out=tries - most)
+def near_of(runs: Runs, asked: Sequence[AskedTurns]) -> Near:
+    """Tries these orders near one."""
+    most = min(len(asked), MOST_INSTRUCTIONS // max(1, runs.longest))
+    found = Near(left_out=len(asked) - most)
     # What called a line counts as far as that makes it the recorded end
     by_end: Dict[Tuple[Ended, bool], BadEnding] = {}
-    for done in runs.each(neighbours(pieces, harts, most)):
+    for done in runs.each(asked[:most]):
         found.tried += 1
         if done.end.kind == WELL:
             found.slow += done.is_slow
@@ -87,7 +87,7 @@ def near_of(runs: Runs, pieces: Pieces, harts: int, tries: int) -> Near:
 
 def power_of(runs: Runs, pieces: Pieces, harts: int, tries: int) -> Optional[Power]:
     """How many of so many orders near that of a crash end badly."""
-    near = near_of(runs, pieces, harts, tries) if tries else None
+    near = near_of(runs, neighbours(pieces, harts, tries)) if tries else None
     return Power(near.bad, near.tried) if near else None
 
 
@@ -98,7 +98,11 @@ def checked_order(runs: Runs, order: Order, tries: int) -> Checked:
     carried = runs.one(asked).end
     near = Near()
     if carried.kind == WELL and order.harts > 1:
-        near = near_of(runs, pieces, order.harts, tries)
+        asked_near = neighbours(pieces, order.harts, tries)
+        if tries and is_kept(carrier.steps):
+            shared = shared_turns(runs.accesses(pieces, FARTHEST))
+            asked_near += at_accesses(pieces, shared)[:tries]
+        near = near_of(runs, asked_near)
     found = Checked(order, carrier.steps, carried, near, runs.count)
     if carried.kind != WELL:
         found.shown = BadEnding(carried, asked, 1)
@@ -107,6 +111,10 @@ def checked_order(runs: Runs, order: Order, tries: int) -> Checked:
                            near.endings[0])
     judge_order(found)
     return found
+
+
+def is_kept(steps: Sequence[CarriedStep]) -> bool:
+    return all(step.how == KEPT for step in steps)
 
 
 def is_same(end: Ended, order: Order) -> bool:
@@ -129,9 +137,8 @@ def judge_order(found: Checked) -> None:
         found.verdict = "UNSURE: nothing ends badly, but the order could not be carried over"
         found.status = UNSURE
     else:
-        is_kept = all(step.how == KEPT for step in found.steps)
         found.verdict = "HOLDS, as far as was tried: the order " + (
-            "comes, and ends well" if is_kept else "can't come any more")
+            "comes, and ends well" if is_kept(found.steps) else "can't come any more")
 
 
 def call_apart(end: Ended, recorded: Optional[Ended]) -> str:

@@ -2,7 +2,8 @@
 are.
 
 In tests/crashes/mended NAME.mended.diff is a true fix, and NAME.half.diff one by which some orders
-still end badly."""
+still end badly. NAME.none.diff mends nothing, and NAME.rewritten.diff changes names, functions and
+lines alone."""
 import os
 import re
 import shutil
@@ -21,12 +22,22 @@ MOVED = "moved"             # a change that gives each line another number
 
 
 class Program(NamedTuple):
-    """The source, the options of a recording that ends badly, its turns, and
-    {change: what is put in place of what} of changes that have no diff."""
+    """The source, the options of a recording that ends badly, and its turns.
+
+    changes  {change: what is put in place of what}, of changes that have no diff
+    output   the byte of the output that is wrong, as `shrink` takes it"""
     source: str
     options: tuple
     schedule: str = ""
     changes: dict = {}
+    output: str = ""
+
+
+def fresh(name, harts, turns, limit=1000000, output=""):
+    """A program that stands beside its fixes. Its turns are those of a seed or a schedule."""
+    seed = () if ":" in turns else (f"--seed={turns}",)
+    options = f"--harts={harts}", f"--limit={limit}", *seed
+    return Program(f"tests/crashes/mended/{name}.c", options, "" if seed else turns, output=output)
 
 
 PROGRAMS = {
@@ -40,6 +51,16 @@ PROGRAMS = {
     "counter": Program("examples/counter.c", ("--harts=2", "--seed=2", "--limit=100000")),
     "heap": Program("examples/heap.c", ("--harts=1", "--seed=1", "--limit=1000000")),
     "shelf": Program("tests/companions/lib/programs/shelf.c", ("--harts=2", "--seed=1")),
+    "hang_bakery": fresh("hang_bakery", 3, "sleeper:26", 100000),
+    "hang_ferry": fresh("hang_ferry", 3, "bursts:2", 100000),
+    "race_alarms": fresh("race_alarms", 2, "6"),
+    "race_library": fresh("race_library", 3, "1"),
+    "race_market": fresh("race_market", 3, "bursts:6"),
+    "race_purses": fresh("race_purses", 3, "bursts:3"),
+    "race_stealing": fresh("race_stealing", 4, "bursts:9"),
+    "wrong_bulletin": fresh("wrong_bulletin", 2, "bursts:1", output="3:0"),
+    "wrong_rod": fresh("wrong_rod", 4, "1"),
+    "wrong_votes": fresh("wrong_votes", 4, "1"),
 }
 
 
@@ -55,6 +76,15 @@ def names():
     return sorted({name.split(".")[0] for name in os.listdir(DIFFS)})
 
 
+def has_change(name, change):
+    return (change in ("", MOVED) or change in program_of(name).changes
+            or os.path.exists(diff_of(name, change)))
+
+
+def diff_of(name, change):
+    return os.path.join(DIFFS, f"{name}.{change}.diff")
+
+
 def has_compiler():
     return shutil.which(COMPILER) is not None
 
@@ -64,7 +94,7 @@ def changes_of(name, change):
     known = program_of(name).changes
     if change in known:
         return known[change]
-    diff = common.text_of(os.path.join(DIFFS, f"{name}.{change}.diff"))
+    diff = common.text_of(diff_of(name, change))
     hunks = re.split(r"^@@.*\n", diff, flags=re.M)[1:]
     return {part_of(hunk, " -"): part_of(hunk, " +") for hunk in hunks}
 
@@ -80,7 +110,7 @@ def source_of(name, change=""):
         comment = "/* A comment\n   that moves\n   all lines. */\n"
         return re.sub(r"^(static|struct) ", comment + r"\1 ", text, 1, re.M)
     for old, new in changes_of(name, change).items() if change else ():
-        assert text.count(old) == 1 or change not in ("mended", "half"), (name, change, old)
+        assert text.count(old) == 1 or change in program_of(name).changes, (name, change, old)
         text = text.replace(old, new)
     return text
 

@@ -22,6 +22,15 @@ hart 3 until load current in hold
 hart 0 until store pool in give_filter
 hart 3 to the end
 """
+STEALING = """zelkuma order 1
+program race_stealing.elf
+set --harts=4
+end fault LoadOutside in work
+hart 0 until atomic bottom in put
+hart 2 until load bottom in steal
+hart 0 until atomic jobs in work #4
+hart 2 to the end
+"""
 FEW = "--tries", "40"
 needs_compiler = unittest.skipUnless(mended.has_compiler(), f"{mended.COMPILER} isn't installed")
 
@@ -191,6 +200,18 @@ class RecheckTest(case.Case):
         self.verdict(0, "HOLDS", order, mended.built("two_locks", "mended"), *FEW)
         self.verdict(11, "STILL CRASHES, by an order near it", order,
                      mended.built("two_locks", "half"), "--tries", "100")
+
+    @needs_compiler
+    def test_if_the_order_comes_and_ends_well_its_switches_are_moved_to_shared_accesses(self):
+        """The half fix leaves one turn, some dozen before that of the order."""
+        self.needs_addr2line()
+        order = hand(STEALING, "stealing.order")
+        for change, status, verdict in (
+                ("", 10, "STILL CRASHES, by the order itself"),
+                ("half", 10, "STILL CRASHES, by an order near it"),
+                ("mended", 0, "HOLDS, as far as was tried: the order comes, and ends well")):
+            with self.subTest(change):
+                self.verdict(status, verdict, order, mended.built("race_stealing", change), *FEW)
 
     @needs_compiler
     def test_a_run_that_needs_more_than_the_limit_is_no_hang(self):
