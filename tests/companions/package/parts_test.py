@@ -1,5 +1,5 @@
 """The parts of the companions: each imports what its head says that it may use, and no two use each
-other. No function here or in the tests is long."""
+other. No function here or in the tests is long, and no conditional expression in another."""
 from __future__ import annotations
 
 import ast
@@ -104,13 +104,16 @@ class Parts(unittest.TestCase):
             if isinstance(node.func, ast.Attribute) and isinstance(node.func.value, ast.Name):
                 self.assertNotEqual((node.func.value.id, node.func.attr), ("os", "wait"), place)
 
-    def test_functions_have_under_40_lines(self) -> None:
+    def test_functions_have_under_40_lines_and_no_condition_is_in_another(self) -> None:
         for folder in ("companion", "python", "tests", "bench", "tools", "examples"):
             for name in pathlib.Path(TOP, folder).rglob("*.py"):
                 for node in ast.walk(ast.parse(name.read_text(encoding="utf-8"))):
                     if isinstance(node, ast.FunctionDef):
                         self.assertLess((node.end_lineno or 0) - node.lineno, 39,
                                         f"{name}:{node.lineno} {node.name}")
+                    if isinstance(node, ast.IfExp):
+                        all_in_it = [each for each in ast.walk(node) if isinstance(each, ast.IfExp)]
+                        self.assertEqual(len(all_in_it), 1, f"{name}:{node.lineno}")
 
     def test_none_stands_outside(self) -> None:
         self.assertEqual(sorted(name for name in os.listdir(COMPANION) if name.endswith(".py")),
