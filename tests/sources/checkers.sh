@@ -1,5 +1,5 @@
 #!/usr/bin/env bash
-# Tries what shellcheck says of the scripts, and mypy and flake8 of what is in Python, and that tests begin free of what
+# Tries what shellcheck says of the scripts, and mypy, flake8 and pylint of what is in Python, and that tests begin free of what
 # the caller has set: tests/sources/checkers.sh
 . "$(dirname "$0")/../asserts.sh"
 cd "$top" || exit 1
@@ -38,5 +38,14 @@ if type -P flake8 >/dev/null; then
     runs 0 flake8 --config "$work/flake8" companion python tools tests bench examples
 else
     skips "the style: flake8 isn't here"
+fi
+
+# What users get, in 35 processor seconds. Tests have ways of their own: they set a path before they import. Each version
+# of pylint has other messages, and the configuration is for those of 2.
+what="the companions by pylint"
+if [[ $(pylint --version 2>/dev/null) == "pylint 2."* ]]; then
+    runs 0 pylint companion
+else
+    skips "the companions: pylint 2 isn't here"
 fi
 end
