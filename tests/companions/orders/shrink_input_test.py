@@ -9,7 +9,7 @@ import subprocess
 import sys
 import time
 from types import SimpleNamespace
-from typing import Any
+from typing import Any, Dict, Tuple
 
 import case
 import common
@@ -24,6 +24,8 @@ from companion.recording.log import End
 
 
 class ShrinkInputTest(case.Case):
+    known: Dict[str, Tuple[str, bytes]] = {}
+
     def setUp(self):
         self.readers = inputs.readers()
 
@@ -50,6 +52,12 @@ class ShrinkInputTest(case.Case):
         said = self.says("shrink", log, elf, new, "--input", source, *says, *options)
         return said, common.content(new)
 
+    def shrunk_once(self, name):
+        """The same of NAME.short, by one search for all tests."""
+        if name not in self.known:
+            self.known[name] = self.shrunk(name, name + ".short")
+        return self.known[name]
+
     def end(self, log, elf):
         """How a run ended, without the count."""
         return re.sub(r"^0 \d+ \d+ \d+ ", "",
@@ -60,7 +68,7 @@ class ShrinkInputTest(case.Case):
         place, or writes LOG's text."""
         log, elf, _ = self.recorded(name)
         reader = self.readers[name]
-        said, data = self.shrunk(name, name + ".short")
+        said, data = self.shrunk_once(name)
         self.assertLessEqual(len(data), reader.most, said)
         self.assertLess(int(re.search(r"by ([\d,]+) recordings", said)[1].replace(",", "")), 1000)
         short = common.record(name + "-short", elf, "--seed", "1", "--input",
@@ -82,7 +90,7 @@ class ShrinkInputTest(case.Case):
 
     def test_what_is_recorded_again(self):
         """The command that is printed last makes a recording that ends so."""
-        said, _ = self.shrunk("names", "names.again")
+        said, _ = self.shrunk_once("names")
         command = said.strip().rpartition("\n")[2].split()
         self.assertEqual((command[:2], command[-2:]), (["zelkuma", "record"], ["LOG", "BOOK"]))
         done = subprocess.run([common.PROGRAM, *command[1:-2], common.path("again.log"),
@@ -94,7 +102,7 @@ class ShrinkInputTest(case.Case):
         """The same bytes by as many recordings."""
         processors = os.sched_getaffinity(0)
         for name in ("table", "bookings", "sections"):
-            said, data = self.shrunk(name, name + ".many")
+            said, data = self.shrunk_once(name)
             os.sched_setaffinity(0, {min(processors)})
             try:
                 its, other = self.shrunk(name, name + ".one")
