@@ -1,14 +1,16 @@
 """python3 -m tests.oracle [--seed N] [--minutes M | --recordings N] [--only WORD] [--case NAME]
-[--project DIR] [--keep DIR]
+[--guests DIR] [--project DIR] [--keep DIR]
 
 Compares what the companions say with the oracle's answers, of random programs from a number on.
-`--only` asks some words (history, calls ..), `--project` asks the companions of another checkout
-than this. Each difference is told with the recording's command, the question and both answers; its
-files are kept below --keep. The status is 1 if there is one."""
+`--only` asks some words (history, calls ..), `--guests` asks of the programs that bench/guests.sh
+builds of Debian's packages in a folder, in place of drawn ones. `--project` asks the companions of
+another checkout than this. Each difference is told with the recording's command, the question and
+both answers; its files are kept below --keep. The status is 1 if there is one."""
 from __future__ import annotations
 
 import argparse
 import functools
+import glob
 import os
 import random
 import resource
@@ -75,6 +77,7 @@ def options(words: List[str]) -> argparse.Namespace:
     parser.add_argument("--recordings", type=int, default=5)
     parser.add_argument("--only", default="")
     parser.add_argument("--case", default="", help="one of the kept cases; 'all'; 'none'")
+    parser.add_argument("--guests", default="")
     parser.add_argument("--project", default=TOP)
     parser.add_argument("--keep", default="")
     parser.add_argument("--program", default="")
@@ -105,6 +108,10 @@ class Session:
             other = building.again(self.given.program, recorded, draw)
             if other.is_whole:
                 ask_compare(asked, asked_of(self.given, self.server, other, self.tally, False))
+
+    def try_guest(self, folder: str, elf: str, seed: int) -> None:
+        recorded = building.guest(self.given.program, folder, elf, random.Random(seed))
+        ask_all(self.given, asked_of(self.given, self.server, recorded, self.tally, True), seed)
 
     def try_case(self, folder: str, case: Case) -> None:
         """A program that is kept."""
@@ -146,6 +153,12 @@ class Session:
             self.attempt(str(seed), functools.partial(self.try_seed, seed=seed))
             seed += 1
 
+    def guests(self) -> None:
+        for seed in range(self.given.seed, self.given.seed + self.given.recordings):
+            for elf in sorted(glob.glob(os.path.join(self.given.guests, "*.elf"))):
+                self.attempt(f"{os.path.basename(elf)}.{seed}",
+                             functools.partial(self.try_guest, elf=elf, seed=seed))
+
     def end(self) -> int:
         tally = self.tally
         self.server.close()
@@ -171,7 +184,9 @@ def main(words: List[str]) -> int:
         return 77
     session = Session(given)
     session.cases(given.case)
-    if given.case in ("", "all"):
+    if given.guests:
+        session.guests()
+    elif given.case in ("", "all"):
         session.seeds()
     return session.end()
 

@@ -160,6 +160,15 @@ def drawn_own(program: str, folder: str, draw: random.Random) -> Recorded:
                     elf, harts, *given)
 
 
+def guest(program: str, folder: str, elf: str, draw: random.Random) -> Recorded:
+    """A program of bench/guests.sh, up to a limit that is drawn."""
+    with open(elf[:-4] + ".input", "rb") as file:
+        read = file.read()
+    small: List[str] = draw.choice([[], ["--log-size", "16384"], ["--interval", "700"]])
+    return recorded(program, folder, elf, elf[:-4] + ".names", 1, "--seed", "1", "--memory",
+                    "4194304", "--limit", str(draw.randrange(5000, 60000)), *small, read=read)
+
+
 def drawn(program: str, folder: str, seed: int) -> Recorded:
     """The recording of a number."""
     draw = random.Random(seed)
