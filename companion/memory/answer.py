@@ -99,7 +99,8 @@ class MemoryAnswer:
             lines.append(self.event("the block was asked for" if thing.kind == "null"
                                     else "the block was taken", thing.taken))
         if thing is not None and thing.gone is not None and thing.gone.pcs:
-            lines.append(self.event("it was given back", thing.gone,
+            does = "its memory was given out again" if thing.is_again else "it was given back"
+            lines.append(self.event(does, thing.gone,
                                     ": another hart" if thing.gone.hart != found.when.hart else ""))
         return lines
 

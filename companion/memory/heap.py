@@ -240,6 +240,7 @@ class Heap:
             return None
         end = min(begin + awaited.size, self.memory.size)
         if begin in self.live:
+            self.live[begin].is_again = True
             self.release(self.live[begin], awaited.when)
         block = self.live[begin] = Thing(begin, end, BLOCK, awaited.name, awaited.when)
         bisect.insort(self.begins, begin)

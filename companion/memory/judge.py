@@ -160,7 +160,10 @@ class Judge:
         if thing.kind == BLOCK:
             text = (f"{distance_in_words(access, thing.begin, thing.end)} a block of "
                     f"{thing.size} bytes")
-            return (FREED_KIND, f"{text} that was given back") if thing.gone else (HEAP, text)
+            if thing.gone is None:
+                return HEAP, text
+            how = "whose memory was given out again" if thing.is_again else "that was given back"
+            return FREED_KIND, f"{text} {how}"
         if thing.kind == NULL:
             return NULL_KIND, f"{access.address} bytes from the 0 that {thing.name} gave"
         if thing.kind in (GLOBAL, MEMBER):

@@ -52,9 +52,11 @@ class Thing:
              once it is added to one
     begin, end      as they are, without what is before an object whose end may have been meant
     taken, gone     when it was taken and given back
+    is_again whether it is gone since an allocator gave its memory out again
     is_part  whether it is a part of an object; owner: the function in whose frame it is, by its
              first address"""
-    __slots__ = "low", "high", "kind", "name", "begin", "end", "taken", "gone", "is_part", "owner"
+    __slots__ = ("low", "high", "kind", "name", "begin", "end", "taken", "gone", "is_again",
+                 "is_part", "owner")
 
     def __init__(self, low: int, high: int, kind: str, name: str = "",
                  taken: Optional[Event] = None) -> None:
@@ -64,6 +66,7 @@ class Thing:
         self.name = name
         self.taken = taken
         self.is_part = False
+        self.is_again = False
         self.gone: Optional[Event] = None
         self.owner = 0
 

@@ -146,6 +146,7 @@ CASES = [
     Case("shop-core", ["-O1", G], [], all_of(ask_core)),
     Case("read_call-core", ["-O2", G], ["--interval", "50"], all_of(ask_core)),
     Case("blocks", ["-O1", G, "-fno-builtin", building.HEAP], [], all_of(ask_memory)),
+    Case("given_again", ["-O1", G, building.HEAP], [], all_of(ask_memory)),
     Case("harts", ["-O2", G], ["--limit", "8000", "--log-size", "16384"],
          all_of(ask_race, ask_history, ask_core), harts=4),
     Case("late", [], "--seed 3 --limit 20000 --interval 3000 --log-size 16384".split(),

@@ -22,6 +22,7 @@ OVERFLOW = "heap-buffer-overflow"
 FREED = "heap-use-after-free"
 TWICE = "double-free"
 NO_BLOCK = "invalid-free"
+AGAIN = "whose memory was given out again"
 UNDEFINED = "use-of-uninitialized-value"
 DISTANCE = re.compile(r"(load|store) of (\d+), "
                       r"(\d+) bytes (after|before|into|before the end of) a block of (\d+) bytes")
@@ -101,6 +102,11 @@ class Allocator:
         return row.code.pc in self.entries or self.is_inside(self.machine.frames[row.number],
                                                              self.entries)
 
+    def given_again(self, block: Block, row: Row) -> Optional[Block]:
+        """The first block that was taken at the place of one while that was live."""
+        return next((each for each in self.blocks if each.begin == block.begin
+                     and block.since < each.since < min(block.until, row.number)), None)
+
     def of(self, told: Optional[Dict[str, Any]]) -> Optional[Block]:
         """The block that was taken by a call."""
         at = (told["hart"], told["count"]) if told else None
@@ -135,11 +141,13 @@ def ask_finding(asked: Asked, told: Dict[str, Any], allocator: Allocator,
         asked.same("memory: an access", [],
                    (what, access is not None and not allocator.is_own(row)), (what, True))
         is_freed = block.until <= row.number
-        asked.same(f"memory: {told['kind']}", [], (what, is_freed), (what, told["kind"] == FREED))
-        if is_freed:
+        again = allocator.given_again(block, row) if told["text"].endswith(AGAIN) else None
+        asked.same(f"memory: {told['kind']}", [], (what, is_freed or again is not None),
+                   (what, told["kind"] == FREED))
+        if is_freed or again:
             given = told["given_back"]
             asked.same("memory: given back", [], (what, given and (given["hart"], given["count"])),
-                       (what, block.given))
+                       (what, again.taken if again else block.given))
         if access:
             ask_distance(asked, what, row, block)
     elif told["kind"] in (TWICE, NO_BLOCK):
