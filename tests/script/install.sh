@@ -22,6 +22,10 @@ cp "$program" "$sources/release/zelkuma-x86_64-linux"
 (cd "$sources/release" && sha256sum zelkuma-x86_64-linux >SHA256SUMS)
 echo 'import os, sys; print(os.environ["ZELKUMA_PROGRAM"], *sys.argv[1:]); sys.exit(5)' >"$sources/companion/__main__.py"
 touch "$sources/companion/__pycache__/stale.pyc" "$sources/companion/stray.py" "$sources/tools/launcher/"{stray.sh,.run.sh.swp}
+# The same with a tenth of the files, for what doesn't depend on how many there are.
+small=$work/small
+cp -r "$sources" "$small"
+grep -E '^(VERSION|release/|tools/|companion/__)' "$sources/tools/files.txt" >"$small/tools/files.txt"
 
 # A toolchain that must never be called.
 mkdir "$work/bin"
@@ -89,30 +93,38 @@ has out "zelkuma $(<"$top/VERSION")"
 has out "program $(sha256sum <"$program" | cut -d ' ' -f 1) $prefix/lib/zelkuma/zelkuma"
 has out "commit unknown"
 
+# What python compiles for the many installations of the small tree is kept, which else is most of what they take.
+export PYTHONPYCACHEPREFIX=$work/compiled
+[ -z "$python" ] || "$python" "$small/tools/help/make.py" --under "$work/made-small"
+runs 0 "$small/zelkuma" install "$work/small-one"
+files_in "$work/small-one" >"$work/whole"
+{ sed 's|^|lib/zelkuma/|' "$small/tools/files.txt" && printf '%s\n' lib/zelkuma/{laid.txt,zelkuma} bin/zelkuma \
+    ${python:+"$manual" "$completion"}; } | LC_ALL=C sort >"$work/wanted"
+equals "$work/wanted" "$work/whole"
+
 what="folders that install makes, and those that it doesn't"
-runs 3 "$sources/zelkuma" install "$work/no/where"
+runs 3 "$small/zelkuma" install "$work/no/where"
 has err "zelkuma: install: there is no folder $work/no, and a PREFIX that ends in / would make it"
 [ ! -e "$work/no" ] || fails "a folder was made"
-runs 0 "$sources/zelkuma" install "$work/no/where/"
-files_in "$prefix" >"$work/whole"
+runs 0 "$small/zelkuma" install "$work/no/where/"
 files_in "$work/no/where" >"$work/files"
 equals "$work/whole" "$work/files"
 cd "$work" || exit 1
-runs 0 "$sources/zelkuma" install -p
+runs 0 "$small/zelkuma" install -p
 works ./-p/bin/zelkuma "$work/-p/lib/zelkuma/zelkuma"
-runs 3 "$sources/zelkuma" install "$work/list"
+runs 3 "$small/zelkuma" install "$work/list"
 has err "is no folder"
 for words in "" "a b"; do
     # shellcheck disable=SC2086
-    runs 2 "$sources/zelkuma" install $words
+    runs 2 "$small/zelkuma" install $words
     has err "install takes one word, the folder PREFIX"
 done
-runs 2 "$sources/zelkuma" install ""
+runs 2 "$small/zelkuma" install ""
 mkdir -p "$work/checkout/lib"
 cp -r "$sources" "$work/checkout/lib/zelkuma"
 everything "$work/checkout" >"$work/before"
 for word in install uninstall; do
-    runs 2 "$sources/zelkuma" $word "$work/checkout"
+    runs 2 "$small/zelkuma" $word "$work/checkout"
     has err "has the sources of zelkuma, and no installation"
 done
 everything "$work/checkout" >"$work/after"
@@ -122,7 +134,7 @@ what="what an earlier version laid"
 # (the first had no list, later ones had one of lib/zelkuma alone; a list also names what isn't its own)
 for older in none tools/files.txt laid.txt; do
     list=$older older=$work/older-${older##*/}
-    runs 0 "$sources/zelkuma" install "$older"
+    runs 0 "$small/zelkuma" install "$older"
     touch "$older/bin/other"
     (cd "$older/lib/zelkuma" && touch companion/gone.py tools/launcher/gone.sh mine)
     case $list in
@@ -136,41 +148,41 @@ for older in none tools/files.txt laid.txt; do
             "$older/bin/other" >>"$older/lib/zelkuma/$list"
         ;;
     esac
-    runs 0 "$sources/zelkuma" install "$older"
+    runs 0 "$small/zelkuma" install "$older"
     { cat "$work/whole" && echo bin/other && echo lib/zelkuma/mine; } | LC_ALL=C sort >"$work/more"
     files_in "$older" >"$work/files"
     equals "$work/more" "$work/files"
 done
 
 what="files of these names that aren't zelkuma's"
-for name in ${python:+"$manual" "$completion"} lib/zelkuma/companion/why/why.py; do
+for name in ${python:+"$manual" "$completion"} lib/zelkuma/tools/doctor.sh; do
     for version in none older; do
         rm -rf "$work/taken"
-        [ "$version" = none ] || runs 0 "$sources/zelkuma" install "$work/taken"
+        [ "$version" = none ] || runs 0 "$small/zelkuma" install "$work/taken"
         mkdir -p "$work/taken/${name%/*}"
         [ "$version" = none ] || sed -i "\\|^$name\$|d" "$work/taken/lib/zelkuma/laid.txt"
         [[ $version$name != nonelib/* ]] || : >"$work/taken/lib/zelkuma/laid.txt"
         echo mine >"$work/taken/$name"
         everything "$work/taken" >"$work/before"
-        runs 2 "$sources/zelkuma" install "$work/taken"
+        runs 2 "$small/zelkuma" install "$work/taken"
         says "zelkuma: install: '$work/taken'/$name isn't zelkuma's; remove it first"
         everything "$work/taken" >"$work/after"
         equals "$work/before" "$work/after"
-        [ "$version" = none ] || runs 0 "$sources/zelkuma" uninstall "$work/taken"
+        [ "$version" = none ] || runs 0 "$small/zelkuma" uninstall "$work/taken"
         [ "$(<"$work/taken/$name")" = mine ] || fails "uninstall took it"
     done
 done
 
 what="a program that was changed"
-printf x >>"$sources/release/zelkuma-x86_64-linux"
-runs 1 "$sources/zelkuma" install "$work/changed"
+printf x >>"$small/release/zelkuma-x86_64-linux"
+runs 1 "$small/zelkuma" install "$work/changed"
 has err "zelkuma: install: release/SHA256SUMS isn't of the program"
 [ ! -e "$work/changed" ] || fails "a folder was made"
-runs 0 "$sources/zelkuma" --version
+runs 0 "$small/zelkuma" --version
 [ "$(head -n 1 "$work/out")" = "zelkuma $(<"$top/VERSION") with another program than the shipped one" ] || fails "it doesn't say so first"
-ZELKUMA_PROGRAM=$program runs 0 "$sources/zelkuma" install "$work/changed"
-runs 0 "$sources/zelkuma" uninstall "$work/changed"
-cp "$program" "$sources/release/zelkuma-x86_64-linux"
+ZELKUMA_PROGRAM=$program runs 0 "$small/zelkuma" install "$work/changed"
+runs 0 "$small/zelkuma" uninstall "$work/changed"
+cp "$program" "$small/release/zelkuma-x86_64-linux"
 
 what="an installation that is killed"
 # Commands that kill their whole group at the call that is counted down to.
@@ -186,17 +198,12 @@ is_killed() { # N WORD..
     { PATH=$work/killers:$PATH setsid -w "${@:2}" >"$work/out" 2>"$work/err" </dev/null; } 2>/dev/null
     [ "$(<"$work/left")" -lt 0 ]
 }
-small=$work/small
-cp -r "$sources" "$small"
-grep -E '^(VERSION|release/|tools/|companion/__)' "$sources/tools/files.txt" >"$small/tools/files.txt"
-runs 0 "$small/zelkuma" install "$work/small-one"
-files_in "$work/small-one" >"$work/small-whole"
 files=$(wc -l <"$small/tools/files.txt") half=$work/half
 for over in nothing older same; do
     # (two commands a file: the first of the list, the mark, the script; the last of the help, the program, what is to go)
     for moment in 0 1 2 3 4 6 $((RANDOM % (2 * files))) $((2 * files + 7)) $((2 * files + 12)) $((2 * files + 14)); do
         rm -rf "$half" && mkdir "$half"
-        [ "$over" = nothing ] || runs 0 "$small/zelkuma" install "$half"
+        [ "$over" = nothing ] || cp -r "$work/small-one/." "$half"
         if [ "$over" = older ]; then
             echo older >"$half/lib/zelkuma/VERSION" && touch "$half/lib/zelkuma/companion/gone.py"
             echo lib/zelkuma/companion/gone.py >>"$half/lib/zelkuma/laid.txt"
@@ -213,7 +220,7 @@ for over in nothing older same; do
         cp -r "$half" "$work/half2"
         runs 0 "$small/zelkuma" install "$half"
         files_in "$half" >"$work/files"
-        equals "$work/small-whole" "$work/files"
+        equals "$work/whole" "$work/files"
         ! is_killed $((RANDOM % 9)) "$small/zelkuma" uninstall "$half" || runs 0 "$small/zelkuma" uninstall "$half"
         [ ! -e "$work/half2/lib/zelkuma" ] || runs 0 "$small/zelkuma" uninstall "$work/half2"
         [ -z "$(files_in "$half")$(files_in "$work/half2")" ] || fails "it left $(files_in "$half") $(files_in "$work/half2"), $moment over $over"
@@ -224,8 +231,8 @@ done
 what="a machine without Python, to which one with it has laid"
 mkdir "$work/without"
 ln -sf -t "$work/without" /bin/* /usr/bin/* && rm -f "$work/without/python"*
-runs 0 "$sources/zelkuma" install "$work/plain"
-PATH=$work/without runs 0 "$sources/zelkuma" install "$work/plain"
+runs 0 "$small/zelkuma" install "$work/plain"
+PATH=$work/without runs 0 "$small/zelkuma" install "$work/plain"
 printf '%s\n' "$work/plain/"{bin,lib}/zelkuma >"$work/wanted"
 equals "$work/wanted" "$work/out"
 has err "zelkuma: note: python3 isn't here, which makes the manual page and the completion of words"
@@ -240,37 +247,37 @@ laid_under "$older" | grep -v /lib/zelkuma >"$work/wanted"
 equals "$work/wanted" "$work/out"
 has err "zelkuma: uninstall: '$older'/lib/zelkuma stays: it has files that install didn't lay"
 [ "$(files_in "$older" | xargs)" = "bin/other lib/zelkuma/mine" ] || fails "it left $(files_in "$older" | xargs)"
-runs 3 "$sources/zelkuma" uninstall "$older"
+runs 3 "$small/zelkuma" uninstall "$older"
 has err "there is no zelkuma under"
-POSIXLY_CORRECT=1 runs 0 "$sources/zelkuma" uninstall "$work/no/where/"
+POSIXLY_CORRECT=1 runs 0 "$small/zelkuma" uninstall "$work/no/where/"
 [ ! -s "$work/err" ] || fails "it says something"
 laid_under "$work/no/where" | sort >"$work/wanted"
 sort "$work/out" >"$work/files"
 equals "$work/wanted" "$work/files"
 [ -z "$(files_in "$work/no")" ] && [ ! -e "$work/no/where/lib/zelkuma" ] || fails "it left $(files_in "$work/no")"
 if unshare -rm true 2>/dev/null; then
-    runs 0 "$sources/zelkuma" install "$work/no/where"
-    runs 0 unshare -rm bash -c 'mount -t tmpfs proc /proc && exec "$@"' bash "$sources/zelkuma" uninstall "$work/no/where" # no /dev/fd
+    runs 0 "$small/zelkuma" install "$work/no/where"
+    runs 0 unshare -rm bash -c 'mount -t tmpfs proc /proc && exec "$@"' bash "$small/zelkuma" uninstall "$work/no/where" # no /dev/fd
     [ ! -s "$work/err" ] || fails "it says something without /dev/fd"
     sort "$work/out" >"$work/files"
     equals "$work/wanted" "$work/files"
 else
     skips "no /dev/fd: unshare isn't here, or isn't permitted"
 fi
-runs 3 "$sources/zelkuma" uninstall "$work/nothing"
-runs 2 "$sources/zelkuma" uninstall
+runs 3 "$small/zelkuma" uninstall "$work/nothing"
+runs 2 "$small/zelkuma" uninstall
 
 what="links, other files of these names, and what dpkg laid"
 kept=$work/kept
 mkdir -p "$kept" "$work/linked-to/companion" "$work/foreign/bin" "$work/link/bin" && touch "$work/linked-to/companion/why.py"
 for link in lib/zelkuma lib/zelkuma/companion lib/zelkuma/tools/files.txt; do
-    runs 0 "$sources/zelkuma" install "$kept"
+    runs 0 "$small/zelkuma" install "$kept"
     mv "$kept/$link" "$work/moved-away"
     ln -s "$work/linked-to/companion" "$kept/$link"
     for word in install uninstall; do
         files_in "$work/linked-to" >"$work/wanted"
         files_in "$kept" >"$work/before"
-        runs 2 "$sources/zelkuma" $word "$kept"
+        runs 2 "$small/zelkuma" $word "$kept"
         has err "zelkuma: $word: '$kept/$link' is a link, which install didn't lay; remove it first"
         files_in "$work/linked-to" >"$work/files"
         equals "$work/wanted" "$work/files"
@@ -279,11 +286,11 @@ for link in lib/zelkuma lib/zelkuma/companion lib/zelkuma/tools/files.txt; do
     done
     rm "$kept/$link" && mv "$work/moved-away" "$kept/$link"
 done
-echo mine >"$work/foreign/bin/zelkuma" && ln -s "$sources/zelkuma" "$work/link/bin/zelkuma"
+echo mine >"$work/foreign/bin/zelkuma" && ln -s "$small/zelkuma" "$work/link/bin/zelkuma"
 for other in foreign link; do
     cp -r "$kept/lib" "$work/$other"
     for word in install uninstall; do
-        runs 2 "$sources/zelkuma" $word "$work/$other"
+        runs 2 "$small/zelkuma" $word "$work/$other"
         has err "zelkuma: $word: '$work/$other/bin/zelkuma' isn't zelkuma's script; remove it first"
     done
 done
@@ -294,7 +301,7 @@ if type -P dpkg-query >/dev/null; then
         "Description: none" "" >"$work/dpkg/status"
     printf '/.\n%s\n' "$kept/bin/zelkuma" >"$work/dpkg/info/zelkuma.list"
     for word in install uninstall; do
-        DPKG_ADMINDIR=$work/dpkg runs 2 "$sources/zelkuma" $word "$kept"
+        DPKG_ADMINDIR=$work/dpkg runs 2 "$small/zelkuma" $word "$kept"
         has err "zelkuma: $word: dpkg laid what is under '$kept': 'apt remove zelkuma' takes it away"
     done
     files_in "$kept" >"$work/files"
@@ -303,6 +310,7 @@ else
     skips "what dpkg laid: dpkg-query isn't here"
 fi
 
+unset PYTHONPYCACHEPREFIX
 what="every companion that is told"
 for word in ${python:+$(companions)}; do
     runs 5 "$prefix/bin/zelkuma" "$word" x
