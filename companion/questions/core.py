@@ -52,8 +52,9 @@ class CorePlace:
         self.row = row
         self.is_found = False
         self.followed = FollowedMemory(asked.log, asked.elf, asked.is_whole)
-        self.counts = {hart: first.start
-                       for hart, first in asked.log.first_intervals().items() if not first.start}
+        self.counts: dict[int, int] = {
+            hart: first.start for hart, first in asked.log.first_intervals().items()
+            if not first.start}
 
     def read(self) -> None:
         for text in self.asked.chunks():

@@ -162,7 +162,8 @@ late=
 what="a terminal"
 shows short "$late$answer"
 shows long "($line, and nothing is saved\\\\r)+$clear$answer"
-shows stopped "($line, and nothing is saved\\\\r)+\\^C$clear"$'\n''?status 130'
+# (on a machine with other work the program ends some time after the key)
+shows stopped "($line, and nothing is saved\\\\r)+\\^C($line, and nothing is saved\\\\r)*$clear"$'\n''?status 130'
 shows no_terminal '<record><ELF><LOG><BOOK>\\r'$'\n''status 0'
 shows err_in_file '<record><ELF><LOG><BOOK>\\r'$'\n''status 0'
 shows dumb "$answer"

@@ -7,21 +7,22 @@ import os
 import random
 import re
 import shlex
-import shutil
 import subprocess
 import sys
 
 import cases
 from cases import Skipped
-from common import COMPANION, EXAMPLES, TOP, content, crash, named_examples, path
+from common import (COMPANION, COMPILER, EXAMPLES, TOP, content, crash, lacks_compiler,
+                    named_examples, path)
 from recordings import DATA, EXIT, FAULTS, T0, T1, T2, addi, lui, pc_of, store
 from reference import run
 
 GDB = "gdb-multiarch"
-COMPILER = "riscv64-unknown-elf-gcc"
 SESSIONS = os.path.join(os.path.dirname(os.path.abspath(__file__)), "sessions")
 SETTINGS = ["set pagination off", "set confirm off", "set width 0", "set debuginfod enabled off",
             "set architecture riscv:rv32", "set remotetimeout 60"]
+NEWER = ("Reached end of recorded history; stopping.\nBackward execution from here not possible.",
+         "No more reverse-execution history.")       # what gdb 16 says, and others
 SIGNALS = {4: "SIGILL", 5: "SIGTRAP", 10: "SIGBUS", 11: "SIGSEGV"}
 FLAGS = ("-march=rv32ima -mabi=ilp32 -mstrict-align -g -ffreestanding -fno-pic -nostdlib -static "
          "-fno-tree-loop-distribute-patterns -z max-page-size=4096 -Wl,--build-id=none").split()
@@ -42,7 +43,7 @@ def talk(target, commands, names=None):
     done = subprocess.run([GDB, "-nx", "-q", *([names] if names else [])], input="\n".join(lines)
                           + "\n", stdout=subprocess.PIPE, stderr=subprocess.STDOUT,
                           universal_newlines=True, timeout=600, check=False)
-    text = done.stdout.replace(TOP + "/", "").replace("(gdb) ", "")
+    text = done.stdout.replace(TOP + "/", "").replace("(gdb) ", "").replace(*NEWER)
     assert "internal-error" not in text, text
     answers = re.split(r"^@@\d+\n", text, flags=re.M)[1:]
     assert len(answers) == len(commands) + 1, text[-2000:]
@@ -79,18 +80,17 @@ class Names:
         self.recordings = recordings
 
     def of(self, example):
-        """Returns the example with names, if it is the kept one but for these."""
+        """Returns the example with names: the kept one but for these."""
+        if lacks_compiler():
+            raise Skipped(lacks_compiler())
         folder = named_examples()
-        if not folder:
-            raise Skipped(f"{COMPILER} isn't installed")
-        if (content(os.path.join(EXAMPLES, example + ".elf"))
-                != content(path("built/" + example + ".elf"))):
-            raise Skipped(f"this {COMPILER} makes another {example}.elf")
+        assert (content(os.path.join(EXAMPLES, example + ".elf"))
+                == content(path("built/" + example + ".elf"))), example
         return os.path.join(folder, example + ".elf")
 
     def without_optimisation(self, example):
-        if not shutil.which(COMPILER):
-            raise Skipped(f"{COMPILER} isn't installed")
+        if lacks_compiler():
+            raise Skipped(lacks_compiler())
         elf = path(example + ".O0.elf")
         library = os.path.join(EXAMPLES, "lib")
         sources = [os.path.join(library, "start.S"), os.path.join(library, "machine.c"),

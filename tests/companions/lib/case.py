@@ -27,10 +27,9 @@ class Case(unittest.TestCase):
 
     @staticmethod
     def names(name):
-        folder = common.named_examples()
-        if not folder:
-            raise unittest.SkipTest("riscv64-unknown-elf-gcc isn't installed")
-        return os.path.join(folder, name + ".elf")
+        if common.lacks_compiler():
+            raise unittest.SkipTest(common.lacks_compiler())
+        return os.path.join(common.named_examples(), name + ".elf")
 
     def record(self, name, *options):
         """The log of an example. The same words are recorded once."""

@@ -2,6 +2,7 @@
 
 The program is the one that the companions find. case.py has the class of tests on top of these."""
 import atexit
+import functools
 import os
 import shutil
 import subprocess
@@ -19,6 +20,9 @@ from tests.oracle.server import Server                        # noqa: E402
 PROGRAM = program_path()
 EXAMPLES = os.path.join(TOP, "examples")
 CRASHES = os.path.join(TOP, "tests", "crashes")
+# What built the ELF files that are kept: with another one functions, lines and orders differ
+COMPILER = "riscv64-unknown-elf-gcc"
+COMPILER_VERSION = "12.2.0"
 scratch = tempfile.TemporaryDirectory()
 servers = []                # that nobody asks just now
 OF_PYTHON = "PYTHON", "LC_", "LANG"
@@ -79,17 +83,25 @@ def present_tools():
     return [tool for tool in TOOLS if shutil.which(tool)]
 
 
+@functools.lru_cache(maxsize=None)
+def lacks_compiler():
+    """Why what has to be built as the kept files were is skipped here, or nothing."""
+    if not shutil.which(COMPILER):
+        return f"{COMPILER} isn't installed"
+    version = subprocess.run([COMPILER, "-dumpfullversion"], stdout=subprocess.PIPE,
+                             check=True).stdout.decode().strip()
+    return ("" if version == COMPILER_VERSION
+            else f"this {COMPILER} is {version}, and {COMPILER_VERSION} built the kept files")
+
+
+@functools.lru_cache(maxsize=None)
 def named_examples():
-    """The folder with the examples' files with names and lines, or None if there is no compiler."""
+    """The folder with the examples' files with names and lines."""
     folder = path("names")
-    if not os.path.exists(folder):
-        os.mkdir(folder)
-        try:
-            subprocess.run([os.path.join(EXAMPLES, "build.sh"), path("built"), folder], check=True,
-                           stdout=subprocess.DEVNULL, stderr=subprocess.DEVNULL)
-        except (OSError, subprocess.CalledProcessError):
-            return None
-    return folder if os.listdir(folder) else None
+    os.mkdir(folder)
+    subprocess.run([os.path.join(EXAMPLES, "build.sh"), path("built"), folder], check=True,
+                   stdout=subprocess.DEVNULL, stderr=subprocess.DEVNULL)
+    return folder
 
 
 class Crash(NamedTuple):

@@ -6,13 +6,11 @@ still end badly. NAME.none.diff mends nothing, and NAME.rewritten.diff changes n
 lines alone."""
 import os
 import re
-import shutil
 import subprocess
 from typing import NamedTuple
 
 import common
 
-COMPILER = "riscv64-unknown-elf-gcc"
 FLAGS = ("-march=rv32ima", "-mabi=ilp32", "-mstrict-align", "-g", "-ffreestanding", "-fno-pic",
          "-fno-tree-loop-distribute-patterns", "-nostdlib", "-static", "-z", "max-page-size=4096",
          "-Wl,--build-id=none")
@@ -85,10 +83,6 @@ def diff_of(name, change):
     return os.path.join(DIFFS, f"{name}.{change}.diff")
 
 
-def has_compiler():
-    return shutil.which(COMPILER) is not None
-
-
 def changes_of(name, change):
     """{a text of the source: what is put in its place}"""
     known = program_of(name).changes
@@ -123,8 +117,8 @@ def built(name, change="", level="-O2"):
         source = common.written(os.path.join(folder, name + ".c"), source_of(name, change))
         script, start, machine = (os.path.join(LIB, name)
                                   for name in ("program.ld", "start.S", "machine.c"))
-        subprocess.run([COMPILER, *FLAGS, level, "-I", LIB, "-I", common.CRASHES, "-T", script,
-                        "-o", elf, start, machine, source], check=True)
+        subprocess.run([common.COMPILER, *FLAGS, level, "-I", LIB, "-I", common.CRASHES,
+                        "-T", script, "-o", elf, start, machine, source], check=True)
     return elf
 
 

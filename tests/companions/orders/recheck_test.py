@@ -32,7 +32,7 @@ hart 0 until atomic jobs in work #4
 hart 2 to the end
 """
 FEW = "--tries", "40"
-needs_compiler = unittest.skipUnless(mended.has_compiler(), f"{mended.COMPILER} isn't installed")
+needs_compiler = unittest.skipIf(common.lacks_compiler(), common.lacks_compiler())
 
 
 def checked(*words):

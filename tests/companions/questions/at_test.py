@@ -147,14 +147,14 @@ class AtTest(case.Case):
     def test_what_is_said_of_a_line(self):
         """It has no code, or several places; of these some have no value."""
         log, elf = common.crash("libc_tree")
-        said = self.says("at", log, elf, "libc_tree.c:38", "link", "number", "--last", "1")
-        self.assertIn("Line 38 has no code at which gdb would stop: these are passes of line 39.\n",
+        said = self.says("at", log, elf, "libc_tree.c:40", "link", "number", "--last", "1")
+        self.assertIn("Line 40 has no code at which gdb would stop: these are passes of line 39.\n",
                       said)
         self.assertEqual(len(re.findall(r"^  before \w{8} \w+ libc_tree.c:39$", said, re.M)),
                          said.count("before"))
         self.assertGreater(said.count("before"), 1)
         self.assertRegex(said,
-                         r"0:74307  000106b8  link = 00011d78 <tree>  number = <optimized out>\n")
+                         r"0:74323  000106d4  link = 00011d78 <tree>  number = <optimized out>\n")
 
     def test_memory_that_is_not_known(self):
         """A log that lost its beginning, and addresses without memory."""

@@ -11,10 +11,10 @@ import unittest
 from concurrent.futures import ThreadPoolExecutor
 from typing import NamedTuple
 
-from common import CRASHES, PROGRAM, TOOLS, companion, crashes, path, present_tools
+from common import (CRASHES, PROGRAM, TOOLS, companion, crashes, lacks_compiler, path,
+                    present_tools)
 
 FIRST = 3
-COMPILER = "12.2.0"
 LARGE = 100
 PICOLIBC = "/usr/lib/picolibc/riscv64-unknown-elf"
 # How many programs of each share have their line in the first three.
@@ -32,15 +32,6 @@ def rank_of(line, text):
         if re.search(re.escape(line) + r"(?!\d)", suspect):
             return int(suspect.split(".")[0])
     return 0
-
-
-def compiler():
-    """The version of the compiler, or no."""
-    try:
-        return subprocess.run(["riscv64-unknown-elf-gcc", "-dumpfullversion"],
-                              stdout=subprocess.PIPE, check=False).stdout.decode().strip()
-    except OSError:
-        return "no"
 
 
 def share_of(program):
@@ -70,10 +61,8 @@ class WhyCrashes(unittest.TestCase):
     def test_kept_files(self):
         """The ELF files that are kept are what the sources give, if the compiler is the one that
         built them."""
-        version = compiler()
-        if version != COMPILER or not os.path.isdir(PICOLIBC):
-            self.skipTest("they were built by GCC %s with picolibc, "
-                          "here is GCC %s" % (COMPILER, version))
+        if lacks_compiler() or not os.path.isdir(PICOLIBC):
+            self.skipTest(lacks_compiler() or "picolibc isn't installed")
         subprocess.run([os.path.join(CRASHES, "build.sh"), path("crashes")], check=True)
         names = sorted(os.listdir(path("crashes")))
         other = [name

@@ -206,6 +206,7 @@ NOINLINE static void no_pointer(unsigned bad)
     copy((char *)&first, bad ? "text" : (char *)&kept_place, 4);
     turn += 0;
     nodes[0].next = &nodes[1];
+    __asm__ volatile ("" ::: "memory");     /* no later store comes before that one */
     first = (struct node *)-4;              /* a mark, of which a part and one of a pointer are no pointer */
     char *bytes = (char *)&first;
     for (unsigned i = 0; i < 4; i++)
